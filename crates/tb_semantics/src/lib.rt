@@ -1,0 +1,7 @@
+//! Runs of machines, told by their steps and events. This crate has no code but laws: what it states once
+//! is cited by every machine and every pass above it.
+#![tactic(auto)]
+
+mod runs;
+
+pub use runs::{events_only_grow, keeps_composes};

@@ -1,0 +1,12 @@
+ghost use Rattle.std.specs.Prelude.{ℕ, ◌+◌};
+ghost use Rattle.tb_semantics.specs.Runs.{Machine, Keeps, EmitsInOrder, IsPrefix, after};
+
+/// A machine whose steps only append to its events has, after fewer steps, a prefix of its later events.
+pub fn events_only_grow<E, S>()
+    ensures law { (m : Machine E S) → EmitsInOrder m → (k n : ℕ) → IsPrefix (m.events (after m k)) (m.events (after m (k + n))) }
+{}
+
+/// Two passes, one after the other, keep what both keep.
+pub fn keeps_composes<E, A, B, C>()
+    ensures law { (a : Machine E A) (b : Machine E B) (c : Machine E C) → Keeps a b → Keeps b c → Keeps a c }
+{}
