@@ -1,0 +1,9 @@
+pub mod Tree
+pub mod View
+pub mod FreeVariables
+pub mod OperandOrder
+pub mod Store
+pub mod Effects
+pub mod Reference
+pub mod Space
+pub mod Width
