@@ -1,0 +1,5 @@
+pub mod Words
+pub mod Rules
+pub mod MacStep
+pub mod MacEvents
+pub mod Examples

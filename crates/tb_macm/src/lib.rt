@@ -1,0 +1,13 @@
+//! The MAC machine: its words, its instructions, its code, and the interpreter that runs it.
+#![tactic(auto)]
+
+mod code;
+mod examples;
+mod word;
+
+pub use code::{
+    BitRow, EntryRow, IndexRow, Instr, InstrRow, LambdaEntry, LiveMap, MacCode, MapRow, OrderEntry,
+    OrderRow, Parts, PlaceEntry, PlaceRow,
+};
+pub use examples::runs_compute;
+pub use word::Word;
