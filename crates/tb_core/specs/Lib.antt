@@ -7,3 +7,4 @@ pub mod Effects
 pub mod Reference
 pub mod Space
 pub mod Width
+pub mod Examples
