@@ -5,6 +5,7 @@ pub mod OperandOrder
 pub mod Store
 pub mod Effects
 pub mod Reference
+pub mod Events
 pub mod Space
 pub mod Width
 pub mod Examples

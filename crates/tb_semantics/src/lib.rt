@@ -4,4 +4,4 @@
 
 mod runs;
 
-pub use runs::{events_only_grow, keeps_composes};
+pub use runs::{events_only_grow, final_stays, keeps_composes};

@@ -1,4 +1,4 @@
-ghost use Rattle.std.specs.Prelude.{ℕ, ◌+◌};
+ghost use Rattle.std.specs.Prelude.{◌≡◌, ℕ, ◌+◌};
 ghost use Rattle.tb_semantics.specs.Runs.{Machine, Keeps, EmitsInOrder, IsPrefix, after};
 
 /// A machine whose steps only append to its events has, after fewer steps, a prefix of its later events.
@@ -9,4 +9,9 @@ pub fn events_only_grow<E, S>()
 /// Two passes, one after the other, keep what both keep.
 pub fn keeps_composes<E, A, B, C>()
     ensures law { (a : Machine E A) (b : Machine E B) (c : Machine E C) → Keeps a b → Keeps b c → Keeps a c }
+{}
+
+/// A run that has come to a state which steps to itself stays there.
+pub fn final_stays<E, S>()
+    ensures law { (m : Machine E S) (n k : ℕ) (s : S) → after m n ≡ s → m.step s ≡ s → after m (n + k) ≡ s }
 {}
