@@ -12,16 +12,11 @@ use Rattle.tb_semantics.specs.Runs.{after}
 use Rattle.tb_core.specs.Tree.{Tree, Node, Form, Quote, Local, Global, Lambda, If, SetLocal, SetGlobal, DefGlobal, Let, Letrec, Seq, Call, PrimUse, Apply, Trees, none, more, LambdaTree, ProgramTree}
 use Rattle.tb_core.specs.OperandOrder.{order_of}
 use Rattle.tb_core.specs.Store.{Item}
-use Rattle.tb_core.specs.Reference.{Config, State, Running, Stopped, Lost, events_of, reference}
+use Rattle.tb_core.specs.Reference.{config_of, events_of, reference}
 
 -- after some steps in its own order, with this input, the program has emitted these events
 abbrev pub Emits : ProgramTree → List ℕ → List Event → Type 0
 Emits p input events = (n : ℕ) × (events_of (after (reference p (order_of p) input) n) ≡ events)
-
-abbrev pub config_of : State → Config
-config_of (Running c es) = c
-config_of (Stopped c es) = c
-config_of (Lost c es) = c
 
 -- after some steps the store has this item
 abbrev pub Stores : ProgramTree → List ℕ → Item → Type 0
