@@ -1,4 +1,5 @@
 pub mod Tree
+pub mod Plain
 pub mod View
 pub mod FreeVariables
 pub mod OperandOrder
@@ -8,4 +9,5 @@ pub mod Reference
 pub mod Events
 pub mod Space
 pub mod Width
+pub mod Rules
 pub mod Examples
