@@ -1,9 +1,13 @@
 pub mod Tree
+pub mod Plain
 pub mod View
 pub mod FreeVariables
 pub mod OperandOrder
 pub mod Store
 pub mod Effects
 pub mod Reference
+pub mod Events
 pub mod Space
 pub mod Width
+pub mod Rules
+pub mod Examples

@@ -363,6 +363,12 @@ events_of (Running c es) = es
 events_of (Stopped c es) = es
 events_of (Lost c es) = es
 
+-- the configuration that a run has come to
+abbrev pub config_of : State → Config
+config_of (Running c es) = c
+config_of (Stopped c es) = c
+config_of (Lost c es) = c
+
 abbrev pub context_of : ProgramTree → List Line → Context
 context_of p order = record { lambdas = p.lambdas; forms = p.forms; inner = inner_free p; order = line_at order }
 

@@ -1,8 +1,12 @@
 //! The core language, and what it means: the reference machine stands in `specs/`.
 #![tactic(auto)]
 
+mod examples;
 mod expr;
+mod laws;
 mod program;
 
+pub use examples::{worked_closures, worked_orders, worked_primitives, worked_programs};
 pub use expr::{Core, Expr, ExprRow, LambdaId, LambdaIdRow, Site, VarId, VarRow};
+pub use laws::{cut_keeps_listed, cut_to_fewer, emits_in_order, ends_last, space_counts_once, space_is_within_made, stopped_stays};
 pub use program::{Lambda, LambdaRow, Program};

@@ -1,3 +1,6 @@
+ghost use Rattle.tb_core.specs.Plain.{plain_program};
+ghost use Rattle.tb_core.specs.Rules.{KeepsRules};
+
 use super::{Expr, ExprRow, VarId, VarRow};
 use tb_prim::{NameRow, Place, Row, StaticRow};
 
@@ -13,11 +16,12 @@ pub struct Lambda {
 pub type LambdaRow = Row<Lambda>;
 
 /// A whole program: the names of its globals, its constants, its lambda expressions in the order of their
-/// numbers, and its top-level forms.
+/// numbers, and its top-level forms. Its type keeps the rules of `KeepsRules`.
 #[derive(Debug, Drop)]
 pub struct Program {
     pub globals: NameRow,
     pub statics: StaticRow,
     pub lambdas: LambdaRow,
     pub forms: ExprRow,
+    pub ghost rules: { ∥ KeepsRules (plain_program globals statics lambdas forms) ∥₁ },
 }

@@ -1,5 +1,5 @@
 -- Runs compose, and events only grow along them.
-use Rattle.std.proofs.Common.{◌≡◌, ℕ, zero, suc, ◌+◌, List, [], ◌++◌, sym, ap, ◌∙◌, subst, arith, append-nil, append_assoc}
+use Rattle.std.proofs.Common.{◌≡◌, refl, ℕ, zero, suc, ◌+◌, List, [], ◌++◌, sym, ap, ◌∙◌, subst, arith, append-nil, append_assoc}
 use Rattle.tb_semantics.specs.Runs.{Machine, run, after, IsPrefix, Appends, EmitsInOrder, Keeps}
 
 -- a steps and then b steps
@@ -35,3 +35,11 @@ keeps-trans a b c h k = record {
   events = λ n. let x = h.events n in let y = k.events x.0 in (y.0, x.1 ∙ y.1);
   comes = λ m. let y = k.comes m in let x = h.comes y.0 in (x.0, omega (arith, x.1, y.1));
 }
+
+-- a state that steps to itself is never left
+pub run-stays : {S : Type 0} (step : S → S) (n : ℕ) (s : S) → step s ≡ s → run step n s ≡ s
+run-stays step zero s e = refl
+run-stays step (suc n) s e = ap (run step n) e ∙ run-stays step n s e
+
+pub after-stays : {E S : Type 0} (m : Machine E S) (n k : ℕ) (s : S) → after m n ≡ s → m.step s ≡ s → after m (n + k) ≡ s
+after-stays m n k s h e = run-add m.step n k m.start ∙ ap (run m.step k) h ∙ run-stays m.step k s e

@@ -2,6 +2,8 @@
 //! is cited by every machine and every pass above it.
 #![tactic(auto)]
 
+mod graphs;
 mod runs;
 
-pub use runs::{events_only_grow, keeps_composes, same_end_keeps};
+pub use graphs::{total_is_any_sum, total_is_within};
+pub use runs::{events_only_grow, final_stays, keeps_composes, same_end_keeps};

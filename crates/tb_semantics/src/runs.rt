@@ -16,3 +16,8 @@ pub fn same_end_keeps<E, A, B>()
     ensures law { (a : Machine E A) (b : Machine E B) → EmitsInOrder a → EmitsInOrder b → b.events b.start ≡ [] →
         (n m : ℕ) (es : List E) → Ends a n es → Ends b m es → Keeps a b }
 {}
+
+/// A run that has come to a state which steps to itself stays there.
+pub fn final_stays<E, S>()
+    ensures law { (m : Machine E S) (n k : ℕ) (s : S) → after m n ≡ s → m.step s ≡ s → after m (n + k) ≡ s }
+{}

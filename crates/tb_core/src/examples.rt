@@ -1,0 +1,56 @@
+ghost use Rattle.std.specs.Prelude.{◌≡◌, List, [], ◌∷◌, map, pos, negsuc};
+ghost use Rattle.tb_prim.specs.declared.event.Cause.{Cause};
+ghost use Rattle.tb_prim.specs.declared.event.Event.{Event};
+ghost use Rattle.tb_prim.specs.declared.event.Taken.{Taken};
+ghost use Rattle.tb_prim.specs.declared.primitive.Primitive.{Primitive};
+ghost use Rattle.tb_core.specs.Effects.{Fails, Gives, effect_of};
+ghost use Rattle.tb_core.specs.Examples.{Emits, Stores, applied, assigned_capture, assigned_in_order, closure_of_one, complex_first, early_assignment, early_read, failure_after_output, letrec_closures, no_procedure, reads, rest_parameter, spot, tail_loop, wrong_count};
+ghost use Rattle.tb_core.specs.OperandOrder.{order_of};
+ghost use Rattle.tb_core.specs.Store.{Bind, Clo, Empty, Fix, Nil};
+
+/// The events of small programs, as the definitions of the reference machine compute them.
+pub fn worked_programs()
+    ensures tail_loop { Emits tail_loop [] (Event.Enter 0 ∷ Event.Enter 0 ∷ Event.Enter 0 ∷ Event.Put 65 ∷ Event.Back ∷ Event.End ∷ []) }
+    ensures closure_of_one { Emits closure_of_one [] (Event.Enter 0 ∷ Event.Put 66 ∷ Event.Back ∷ Event.End ∷ []) }
+    ensures assigned_capture { Emits assigned_capture [] (Event.Enter 0 ∷ Event.Back ∷ Event.Put 66 ∷ Event.End ∷ []) }
+    ensures early_read { Emits early_read [] (Event.Fail Cause.Undefined (spot 5) ∷ []) }
+    ensures early_assignment { Emits early_assignment [] (Event.Fail Cause.Undefined (spot 1) ∷ []) }
+    ensures no_procedure { Emits no_procedure [] (Event.Fail Cause.NotProcedure (spot 1) ∷ []) }
+    ensures wrong_count { Emits wrong_count [] (Event.Enter 0 ∷ Event.Fail Cause.WrongArgs (spot 2) ∷ []) }
+    ensures rest_parameter { Emits rest_parameter [] (Event.Enter 0 ∷ Event.Put 66 ∷ Event.Back ∷ Event.End ∷ []) }
+    ensures twelve_applied { Emits (applied 11) [] (Event.Enter 0 ∷ Event.Put 65 ∷ Event.Back ∷ Event.End ∷ []) }
+    ensures thirteen_applied { Emits (applied 12) [] (Event.Fail Cause.TooMany (spot 1) ∷ []) }
+    ensures reads { Emits reads (97 ∷ []) (Event.Took (Taken.Byte 97) ∷ Event.Took Taken.End ∷ Event.Took Taken.End ∷ Event.End ∷ []) }
+    ensures complex_first { Emits complex_first [] (Event.Put 65 ∷ Event.Put 66 ∷ Event.End ∷ []) }
+    ensures assigned_in_order { Emits assigned_in_order [] (Event.Put 66 ∷ Event.End ∷ []) }
+    ensures failure_after_output { Emits failure_after_output [] (Event.Put 65 ∷ Event.Fail Cause.WrongType (spot 3) ∷ []) }
+    ensures letrec_closures { Emits letrec_closures [] (Event.Enter 0 ∷ Event.Enter 1 ∷ Event.Put 66 ∷ Event.Back ∷ Event.End ∷ []) }
+{}
+
+/// The lines of the operand order of two programs: an operand that is complex stands before one that is
+/// simple, and a variable that is assigned is complex.
+pub fn worked_orders()
+    ensures complex_first { map (λ l. l.order) (order_of complex_first) ≡ (0 ∷ []) ∷ (0 ∷ []) ∷ (0 ∷ []) ∷ (1 ∷ 0 ∷ []) ∷ (0 ∷ []) ∷ [] }
+    ensures assigned_in_order { map (λ l. l.order) (order_of assigned_in_order) ≡ (0 ∷ []) ∷ (0 ∷ []) ∷ (0 ∷ []) ∷ (0 ∷ 1 ∷ []) ∷ [] }
+{}
+
+/// The procedures that the programs make keep the variables that they name, and no more.
+pub fn worked_closures()
+    ensures one { Stores closure_of_one [] (Clo 0 (Bind 1 1 Empty)) }
+    ensures first { Stores letrec_closures [] (Clo 0 (Bind 3 3 Empty)) }
+    ensures second { Stores letrec_closures [] (Clo 1 (Bind 1 1 Empty)) }
+{}
+
+/// The arithmetic of the primitives at the ends of the fixnums, and the signs of division.
+pub fn worked_primitives()
+    ensures add { effect_of [] Primitive.Add (Fix (pos 536870911) ∷ Fix (pos 1) ∷ []) ≡ Fails Cause.Overflow }
+    ensures sub { effect_of [] Primitive.Sub (Fix (pos 0) ∷ Fix (negsuc 536870911) ∷ []) ≡ Fails Cause.Overflow }
+    ensures least { effect_of [] Primitive.Sub (Fix (negsuc 536870910) ∷ Fix (pos 1) ∷ []) ≡ Gives (Fix (negsuc 536870911)) }
+    ensures quotient { effect_of [] Primitive.Quotient (Fix (negsuc 6) ∷ Fix (pos 2) ∷ []) ≡ Gives (Fix (negsuc 2)) }
+    ensures quotient_overflow { effect_of [] Primitive.Quotient (Fix (negsuc 536870911) ∷ Fix (negsuc 0) ∷ []) ≡ Fails Cause.Overflow }
+    ensures zero_divide { effect_of [] Primitive.Modulo (Fix (pos 1) ∷ Fix (pos 0) ∷ []) ≡ Fails Cause.ZeroDivide }
+    ensures remainder { effect_of [] Primitive.Remainder (Fix (negsuc 6) ∷ Fix (pos 2) ∷ []) ≡ Gives (Fix (negsuc 0)) }
+    ensures modulo { effect_of [] Primitive.Modulo (Fix (negsuc 6) ∷ Fix (pos 2) ∷ []) ≡ Gives (Fix (pos 1)) }
+    ensures modulo_negative { effect_of [] Primitive.Modulo (Fix (pos 7) ∷ Fix (negsuc 1) ∷ []) ≡ Gives (Fix (negsuc 0)) }
+    ensures kind_before_zero { effect_of [] Primitive.Quotient (Nil ∷ Fix (pos 0) ∷ []) ≡ Fails Cause.WrongType }
+{}

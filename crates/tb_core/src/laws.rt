@@ -1,0 +1,50 @@
+ghost use Rattle.std.specs.Prelude.{◌≡◌, ◌≤◌, ℕ, ◌+◌, List, Option, Some, None, cond, true, false};
+ghost use Rattle.tb_prim.specs.declared.event.Event.{Event};
+ghost use Rattle.tb_semantics.specs.Graph.{ListsReachable, sum_of};
+ghost use Rattle.tb_semantics.specs.Runs.{EmitsInOrder, IsPrefix, after};
+ghost use Rattle.tb_core.specs.Events.{EndsLast};
+ghost use Rattle.tb_core.specs.FreeVariables.{is_in};
+ghost use Rattle.tb_core.specs.OperandOrder.{Line};
+ghost use Rattle.tb_core.specs.Reference.{Config, Stopped, events_of, reference};
+ghost use Rattle.tb_core.specs.Space.{made, own_words, size_at, space, store_graph};
+ghost use Rattle.tb_core.specs.Store.{Env, cut, lookup};
+ghost use Rattle.tb_core.specs.Tree.{ProgramTree};
+
+/// A run that has stopped stays as it is.
+pub fn stopped_stays()
+    ensures law { (p : ProgramTree) (order : List Line) (input : List ℕ) (n k : ℕ) (c : Config) (es : List Event) → after (reference p order input) n ≡ Stopped c es → after (reference p order input) (n + k) ≡ Stopped c es }
+{}
+
+/// A step emits at most one event, behind those before it; so the events of a run only grow.
+pub fn emits_in_order()
+    ensures step { (p : ProgramTree) (order : List Line) (input : List ℕ) → EmitsInOrder (reference p order input) }
+    ensures run { (p : ProgramTree) (order : List Line) (input : List ℕ) (k n : ℕ) → IsPrefix (events_of (after (reference p order input) k)) (events_of (after (reference p order input) (k + n))) }
+{}
+
+/// A run stops with End or Fail, and emits neither before that.
+pub fn ends_last()
+    ensures law { (p : ProgramTree) (order : List Line) (input : List ℕ) (n : ℕ) → EndsLast (after (reference p order input) n) }
+{}
+
+/// An environment that is cut has each variable of the list where it was, and no other.
+pub fn cut_keeps_listed()
+    ensures kept { (xs : List ℕ) (r : Env) (y : ℕ) → is_in xs y ≡ true → lookup (cut xs r) y ≡ lookup r y }
+    ensures left { (xs : List ℕ) (r : Env) (y : ℕ) → is_in xs y ≡ false → lookup (cut xs r) y ≡ None }
+{}
+
+/// A cut to fewer variables makes an earlier one to more needless; so cut twice is cut once.
+pub fn cut_to_fewer()
+    ensures fewer { (xs ys : List ℕ) (r : Env) → ((y : ℕ) → is_in xs y ≡ true → is_in ys y ≡ true) → cut xs (cut ys r) ≡ cut xs r }
+    ensures twice { (xs : List ℕ) (r : Env) → cut xs (cut xs r) ≡ cut xs r }
+{}
+
+/// The space of a configuration is its own words and the flat sizes of any list of exactly the locations that
+/// it reaches, each once.
+pub fn space_counts_once()
+    ensures law { (statics : ℕ) (c : Config) (xs : List ℕ) → ListsReachable (store_graph statics c) xs → space statics c ≡ own_words c + sum_of (size_at c.store) xs }
+{}
+
+/// The space of a configuration is at most its own words and all that was made.
+pub fn space_is_within_made()
+    ensures law { (statics : ℕ) (c : Config) → space statics c ≤ own_words c + made c.store }
+{}

@@ -1,0 +1,12 @@
+ghost use Rattle.std.specs.Prelude.{◌≡◌, ◌≤◌, ℕ, List};
+ghost use Rattle.tb_semantics.specs.Graph.{Graph, IsClosed, ListsReachable, below, sum_of, total};
+
+/// The size of all that can be reached in a graph is the sum over any list of exactly those nodes, each once.
+pub fn total_is_any_sum()
+    ensures law { (size : ℕ → ℕ) (g : Graph) (xs : List ℕ) → IsClosed g → ListsReachable g xs → sum_of size xs ≡ total size g }
+{}
+
+/// What can be reached is no more than what there is.
+pub fn total_is_within()
+    ensures law { (size : ℕ → ℕ) (g : Graph) → total size g ≤ sum_of size (below g.count) }
+{}
