@@ -2,3 +2,4 @@ pub mod Words
 pub mod Asked
 pub mod Generate
 pub mod Compiled
+pub mod SmallForms
