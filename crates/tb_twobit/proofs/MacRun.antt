@@ -17,7 +17,7 @@ use Rattle.tb_macm.specs.declared.code.PlaceEntry.{PlaceEntry}
 use Rattle.tb_macm.specs.Words.{on_some, imm_word}
 use Rattle.tb_macm.specs.MacStep.{Mac, Outcome, Went, Stopped, mac_step, perform, stuck, set_register, goes, place_of, finish, primitive_1}
 use Rattle.tb_macm.specs.MacEvents.{MacState, Going, Halted, next, next_state}
-use Rattle.tb_twobit.specs.Generate.{code, places, bits_of, result}
+use Rattle.tb_twobit.specs.Generate.{code, codes, places, all_places, bits_of, result}
 use Rattle.tb_twobit.proofs.Meaning.{Meaning, Gave, Failed, before, and_then, write, meaning}
 use Rattle.tb_core.specs.Reference.{Context}
 use Rattle.tb_twobit.proofs.ReferenceRun.{Built, quote, write_char}
@@ -170,9 +170,17 @@ module _ (C : List Instr) (P : List PlaceEntry) where
       Stands C n (code e) → Found P (places n e) → Runs m es n (length (code e)) (meaning e)
   code_runs (quote {c = c}) has m es n there wide stands found = quoted m es n (bits_of c) (value_of c) there wide stands.0 has
   code_runs (write_char {p} {s} {e} o b) has m es n there wide stands found =
-      written m es n (length (code e)) (length (code e ++ Op1 result result 42 ∷ [])) p (length-append (code e) (Op1 result result 42 ∷ []))
-        (stands_back C n (code e) (Op1 result result 42 ∷ []) stands).0
-        (found_back P (places n e) (record { instr = n + length (code e); place = p } ∷ []) found).0
+      let one_code : codes (more e none) ≡ code e = append-nil (code e) in
+      let one_places : all_places n (more e none) ≡ places n e = append-nil (places n e) in
+      let stands1 : Stands C n (code e ++ Op1 result result 42 ∷ []) = subst (λ is. Stands C n (is ++ Op1 result result 42 ∷ [])) one_code stands in
+      let found1 : Found P (places n e ++ record { instr = n + length (code e); place = p } ∷ []) =
+        subst (λ ps. Found P (ps ++ record { instr = n + length (code e); place = p } ∷ [])) one_places
+          (subst (λ is. Found P (all_places n (more e none) ++ record { instr = n + length is; place = p } ∷ [])) one_code found) in
+      let size : length (codes (more e none) ++ Op1 result result 42 ∷ []) ≡ length (code e) + 1 =
+        length-append (codes (more e none)) (Op1 result result 42 ∷ []) ∙ ap (λ is. length is + 1) one_code in
+      written m es n (length (code e)) (length (codes (more e none) ++ Op1 result result 42 ∷ [])) p size
+        (stands_back C n (code e) (Op1 result result 42 ∷ []) stands1).0
+        (found_back P (places n e) (record { instr = n + length (code e); place = p } ∷ []) found1).0
         (meaning e)
-        (code_runs b has m es n there wide (stands_front C n (code e) (Op1 result result 42 ∷ []) stands)
-          (found_front P (places n e) (record { instr = n + length (code e); place = p } ∷ []) found))
+        (code_runs b has m es n there wide (stands_front C n (code e) (Op1 result result 42 ∷ []) stands1)
+          (found_front P (places n e) (record { instr = n + length (code e); place = p } ∷ []) found1))

@@ -1,5 +1,5 @@
 -- The places of code are in the order of its instructions, so that each is found.
-use Rattle.std.proofs.Common.{◌≡◌, ℕ, suc, ◌+◌, ◌<◌, ◌≤◌, ◌==◌, Bool, true, false, cond, length, List, [], ◌∷◌, ◌++◌, Option, Some, refl, sym, ap, ◌∙◌, subst, length-append, append_assoc, arith}
+use Rattle.std.proofs.Common.{◌≡◌, ℕ, suc, ◌+◌, ◌<◌, ◌≤◌, ◌==◌, Bool, true, false, cond, length, List, [], ◌∷◌, ◌++◌, Option, Some, refl, sym, ap, ◌∙◌, subst, length-append, append_assoc, append-nil, arith}
 use Rattle.std.specs.Prelude.{option_map, find}
 use Rattle.std.proofs.lemmas.Bool.Decides.{nat_tests}
 use Rattle.tb_prim.specs.declared.primitive.Primitive.TheVariants.{WriteChar}
@@ -28,12 +28,15 @@ ascends_append low mid high (e ∷ es) ds h k = (h.0, ascends_append (suc e.inst
 pub places_ascend : {x : Context} {e : Tree} → Built x e → (n : ℕ) → Ascends n (n + length (code e)) (places n e)
 places_ascend (quote {p} {s} {c}) n = omega arith
 places_ascend (write_char {p} {s} {e} o b) n =
-    let h = places_ascend b n in
-    let m = n + length (code e) in
-    let size : length (code e ++ Op1 result result 42 ∷ []) ≡ length (code e) + 1 = length-append (code e) (Op1 result result 42 ∷ []) in
+    let one_code : codes (more e none) ≡ code e = append-nil (code e) in
+    let one_places : all_places n (more e none) ≡ places n e = append-nil (places n e) in
+    let m = n + length (codes (more e none)) in
+    let h : Ascends n m (all_places n (more e none)) =
+      subst (λ ps. Ascends n m ps) (sym one_places) (subst (λ is. Ascends n (n + length is) (places n e)) (sym one_code) (places_ascend b n)) in
+    let size : length (codes (more e none) ++ Op1 result result 42 ∷ []) ≡ length (codes (more e none)) + 1 = length-append (codes (more e none)) (Op1 result result 42 ∷ []) in
     let least : m ≤ m = omega arith in
-    let high : suc m ≤ n + length (code e ++ Op1 result result 42 ∷ []) = omega arith in
-    ascends_append n m (n + length (code e ++ Op1 result result 42 ∷ [])) (places n e) (record { instr = m; place = p } ∷ []) h (least, high)
+    let high : suc m ≤ n + length (codes (more e none) ++ Op1 result result 42 ∷ []) = omega arith in
+    ascends_append n m (n + length (codes (more e none) ++ Op1 result result 42 ∷ [])) (all_places n (more e none)) (record { instr = m; place = p } ∷ []) h (least, high)
 
 -- expressions that have code so far
 abbrev pub AllBuilt : Context → Trees → Type 0

@@ -45,8 +45,13 @@ abbrev mutual
 
   pub form_code : Form → List Instr
   form_code (Quote c) = Imm result (bits_of c) ∷ []
-  form_code (PrimUse WriteChar (more e none)) = code e ++ Op1 result result write_char ∷ []
+  form_code (PrimUse WriteChar es) = codes es ++ Op1 result result write_char ∷ []
   form_code _ = []
+
+  -- and of expressions, one after another
+  pub codes : Trees → List Instr
+  codes none = []
+  codes (more e es) = code e ++ codes es
 
 abbrev mutual
   -- the places of the instructions that can fail, where the first instruction has number `at`
@@ -54,17 +59,12 @@ abbrev mutual
   places at (Node p s f) = form_places at p f
 
   pub form_places : ℕ → Place → Form → List PlaceEntry
-  form_places at p (PrimUse WriteChar (more e none)) = places at e ++ record { instr = at + length (code e); place = p } ∷ []
+  form_places at p (PrimUse WriteChar es) = all_places at es ++ record { instr = at + length (codes es); place = p } ∷ []
   form_places at p _ = []
 
--- the same of a list of expressions, one after another
-abbrev pub codes : Trees → List Instr
-codes none = []
-codes (more e es) = code e ++ codes es
-
-abbrev pub all_places : ℕ → Trees → List PlaceEntry
-all_places at none = []
-all_places at (more e es) = places at e ++ all_places (at + length (code e)) es
+  pub all_places : ℕ → Trees → List PlaceEntry
+  all_places at none = []
+  all_places at (more e es) = places at e ++ all_places (at + length (code e)) es
 
 -- the code of a program: a frame for its forms, the forms, and the end
 abbrev pub program_code : Trees → List Instr

@@ -3,3 +3,4 @@ pub mod Asked
 pub mod Generate
 pub mod Compiled
 pub mod SmallForms
+pub mod Bits

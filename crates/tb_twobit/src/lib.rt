@@ -1,6 +1,7 @@
 //! The top call: it does all that the program does.
 #![tactic(auto)]
 
+mod generator;
 mod words;
 
 pub use words::{Command, asked_for};
