@@ -14,7 +14,7 @@ use Rattle.tb_twobit.proofs.ReferenceRun.{Built, quote, write_char}
 use Rattle.tb_twobit.proofs.PlacesFound.{AllBuilt}
 use Rattle.tb_twobit.proofs.ProgramRun.{AllHaveWords}
 
-char_word : (c : ℕ) → c < 256 → imm_word (256 * c + 10) ≡ Some (W.Char c)
+pub char_word : (c : ℕ) → c < 256 → imm_word (256 * c + 10) ≡ Some (W.Char c)
 char_word c h =
     let not_fixnum : ((256 * c + 10) % 4 == 0) ≡ false = grind (arith, nat_tests) in
     let character : ((256 * c + 10) % 256 == 10) ≡ true = grind (arith, nat_tests) in

@@ -2,15 +2,15 @@ ghost use Rattle.std.specs.Prelude.{◌≡◌, ◌+◌, ◌≤◌, ◌<◌, ◌^
 ghost use Rattle.tb_core.specs.View.{view, trees};
 ghost use Rattle.tb_macm.specs.Rules.{MapOk};
 ghost use Rattle.tb_twobit.specs.Bits.{HasBits, HaveBits, AllHaveBits};
-ghost use Rattle.tb_twobit.specs.Compiled.{Compiles};
+ghost use Rattle.tb_twobit.specs.Compiled.{Compiles, CodeKeepsRules};
 ghost use Rattle.tb_twobit.specs.Generate.{bits_of, codes, places, all_places, program_of, program_code, program_places};
 ghost use Rattle.tb_twobit.specs.Generate as generate;
 ghost use Rattle.tb_twobit.specs.SmallForms.{FormsFrom};
 
 use std::alloc::Global;
 use tb_core::{Core, Expr};
-use tb_macm::{Instr, LiveMap, PlaceEntry};
-use tb_prim::{Const, NoMemory, Place, Prim};
+use tb_macm::{Instr, LiveMap, MacCode, Parts, PlaceEntry};
+use tb_prim::{Const, NoMemory, Place, Prim, Row};
 
 /// The number of the register RESULT.
 const RESULT: u8 = 16;
@@ -94,4 +94,65 @@ fn put_exprs(out: &mut Output, exprs: &[Expr]) -> Result<(), NoMemory>
         put_expr(out, expr)?;
     }
     Ok(())
+}
+
+/// A map for each of so many instructions. No instruction of this stage needs to know what is live, so that
+/// no map says it.
+fn maps(alloc: Global, count: usize) -> Result<Vec<LiveMap>, NoMemory>
+    ensures { IfOk result (λ maps. (length maps.items ≡ count) × All MapOk maps.items) }
+{
+    let mut maps = Vec::new(alloc);
+    for _ in 0..count {
+        maps.push(LiveMap { regs: 0, slots: None })?;
+    }
+    Ok(maps)
+}
+
+/// The instructions of a program, and the places of those that can fail.
+fn program(alloc: Global, forms: &[Expr]) -> Result<Output, NoMemory>
+    requires small { FormsFrom 0 (trees (map view forms.now)) }
+    requires few { length forms.now ≤ 1000 }
+    ensures code { IfOk result (λ out. out.code.items ≡ program_code (trees (map view forms.now))) }
+    ensures places { IfOk result (λ out. out.places.items ≡ program_places (trees (map view forms.now))) }
+{
+    let mut out = Output {
+        code: Vec::new(alloc),
+        places: Vec::new(alloc),
+    };
+    put(&mut out, Instr::Save(0))?;
+    put_exprs(&mut out, forms)?;
+    put(&mut out, Instr::End)?;
+    Ok(out)
+}
+
+/// The code with these instructions and places, and with no globals, constants and lambdas.
+fn assembled(alloc: Global, out: Output) -> Result<MacCode, NoMemory>
+    requires { CodeKeepsRules out.code.items out.places.items }
+    ensures code { IfOk result (λ made. made.code ≡ out.code.items) }
+    ensures places { IfOk result (λ made. made.places ≡ out.places.items) }
+{
+    let Output { code, places } = out;
+    let maps = maps(alloc, code.len())?;
+    let parts = Parts {
+        globals: Row::from_vec(Vec::new(alloc)),
+        statics: Row::from_vec(Vec::new(alloc)),
+        lambdas: Row::from_vec(Vec::new(alloc)),
+        order: Row::from_vec(Vec::new(alloc)),
+    };
+    Ok(MacCode {
+        parts,
+        code: Row::from_vec(code),
+        maps: Row::from_vec(maps),
+        places: Row::from_vec(places),
+    })
+}
+
+/// The code of a program that is these forms alone.
+pub fn generate(alloc: Global, forms: &[Expr]) -> Result<MacCode, NoMemory>
+    requires small { FormsFrom 0 (trees (map view forms.now)) }
+    requires few { length forms.now ≤ 1000 }
+    ensures { IfOk result (λ made. Compiles (program_of (trees (map view forms.now))) made.code made.places) }
+{
+    let out = program(alloc, forms)?;
+    assembled(alloc, out)
 }
