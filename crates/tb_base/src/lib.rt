@@ -2,6 +2,11 @@
 //! files are. Each object counts its faults, so that an answer which blames one of them can be checked.
 #![tactic(auto)]
 
+mod call_numbers;
+mod memory_sink;
+mod memory_source;
 mod outside;
 
+pub use memory_sink::MemSink;
+pub use memory_source::MemSource;
 pub use outside::{Failed, LoadFault, SaveFault, Sink, Source, Store};
