@@ -11,8 +11,8 @@ pub record Calls : Type 0 where
   pub next : ℕ
 
 -- the next call is to fail
-abbrev pub IsFailing : Calls → Type 0
-IsFailing calls = Contains calls.fails calls.next
+pub record IsFailing (calls : Calls) : Type 0 where
+  pub listed : Contains calls.fails calls.next
 
 -- the calls after one more
 abbrev pub after_call : Calls → Calls

@@ -3,10 +3,14 @@
 #![tactic(auto)]
 
 mod call_numbers;
+mod entries;
+mod fault_names;
 mod memory_sink;
 mod memory_source;
+mod memory_store;
 mod outside;
 
 pub use memory_sink::MemSink;
 pub use memory_source::MemSource;
+pub use memory_store::MemStore;
 pub use outside::{Failed, LoadFault, SaveFault, Sink, Source, Store};
