@@ -9,8 +9,10 @@ mod memory_sink;
 mod memory_source;
 mod memory_store;
 mod outside;
+mod puts;
 
 pub use memory_sink::MemSink;
 pub use memory_source::MemSource;
 pub use memory_store::MemStore;
 pub use outside::{Failed, LoadFault, SaveFault, Sink, Source, Store};
+pub use puts::put_all;
