@@ -35,3 +35,8 @@ abbrev pub IsFailedSave : Result (Unit {0}) SaveFault → Type 0
 IsFailedSave (Ok u) = ⊥
 IsFailedSave (Err SaveFault.Failed) = Unit {0}
 IsFailedSave (Err SaveFault.NoMemory) = Unit {0}
+
+-- the names of the loads and of the saves of a store that failed
+pub record FailedCalls : Type 0 where
+  pub loads : List (List ℕ)
+  pub saves : List (List ℕ)

@@ -64,6 +64,13 @@ LoadsTold files name limit (Err LoadFault.Failed) = Unit {0}
 LoadsTold files name limit (Err LoadFault.TooLong) = IsLonger (files name) limit
 LoadsTold files name limit (Err LoadFault.NoMemory) = Unit {0}
 
+-- what reading all of these bytes gives, where at most `limit` are wanted
+abbrev pub GivesAll : List ℕ → ℕ → Result (Vec ℕ Global) LoadFault → Type 0
+GivesAll left limit (Ok bytes) = bytes.items ≡ left
+GivesAll left limit (Err LoadFault.Failed) = Unit {0}
+GivesAll left limit (Err LoadFault.TooLong) = limit < length left
+GivesAll left limit (Err LoadFault.NoMemory) = Unit {0}
+
 -- a load leaves the files as they are, and gives those of the name
 pub record LoadDoes (before now : Option Files) (name : List ℕ) (limit : ℕ) (result : Result (Vec ℕ Global) LoadFault) : Type 0 where
   pub same : now ≡ before

@@ -10,9 +10,13 @@ mod memory_source;
 mod memory_store;
 mod outside;
 mod puts;
+mod real_sink;
+mod real_store;
 
 pub use memory_sink::MemSink;
 pub use memory_source::MemSource;
 pub use memory_store::MemStore;
 pub use outside::{Failed, LoadFault, SaveFault, Sink, Source, Store};
 pub use puts::put_all;
+pub use real_sink::RealSink;
+pub use real_store::RealStore;

@@ -56,6 +56,17 @@ impl From<AllocError> for LoadFault {
     }
 }
 
+impl From<AllocError> for SaveFault {
+    ghost use Rattle.std.specs.Prelude.{◌≡◌};
+    ghost use Rattle.tb_base.specs.declared.outside.SaveFault.{SaveFault};
+
+    ghost from_gives = { λ _ fault. fault ≡ SaveFault.NoMemory };
+
+    fn from(_: AllocError) -> SaveFault {
+        SaveFault::NoMemory
+    }
+}
+
 impl<T: Drop> From<AllocFailed<T>> for SaveFault {
     ghost use Rattle.std.specs.Prelude.{◌≡◌};
     ghost use Rattle.tb_base.specs.declared.outside.SaveFault.{SaveFault};
