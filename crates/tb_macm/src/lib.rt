@@ -3,11 +3,13 @@
 
 mod code;
 mod examples;
+mod immediate;
+mod state;
+mod step;
 mod word;
 
-pub use code::{
-    BitRow, EntryRow, IndexRow, Instr, InstrRow, LambdaEntry, LiveMap, MacCode, MapRow, OrderEntry,
-    OrderRow, Parts, PlaceEntry, PlaceRow,
-};
+pub use code::{BitRow, EntryRow, IndexRow, Instr, InstrRow, LambdaEntry, LiveMap, MacCode, MapRow, OrderEntry, OrderRow, Parts, PlaceEntry, PlaceRow};
 pub use examples::runs_compute;
+pub use immediate::immediate_word;
+pub use step::Step;
 pub use word::Word;
