@@ -9,6 +9,8 @@ use Rattle.tb_macm.specs.declared.word.Word.TheVariants.{Fix, Special, Char, Hea
 use Rattle.tb_macm.specs.declared.code.Instr.{Instr}
 use Rattle.tb_macm.specs.declared.code.Instr.TheVariants.{Save, Load, Store, Jump, Brf, Imm, Move, End, Op1, Op2}
 use Rattle.tb_macm.specs.declared.code.PlaceEntry.{PlaceEntry}
+pub use Rattle.tb_macm.specs.declared.primitive.Answer.{Answer}
+pub use Rattle.tb_macm.specs.declared.primitive.Answer.TheVariants.{Gives, Puts, Fails, NoNextStep}
 use Rattle.tb_macm.specs.Words.{on_some, imm_word, frame_size}
 
 -- a state: the number of the next instruction, the 17 registers, the words of the heap and the stack, and
@@ -24,13 +26,6 @@ pub record Mac : Type 0 where
 pub data Outcome : Type 0 where
   Went : Option Event → Mac → Outcome
   Stopped : Stop → Outcome
-
--- what a primitive of operands comes to: a value, a byte that is put, a failure, or no next step
-pub data Answer : Type 0 where
-  Gives : Word → Answer
-  Puts : ℕ → Answer
-  Fails : Cause → Answer
-  NoNextStep : Answer
 
 -- there is no next step
 abbrev pub stuck : Mac → Outcome

@@ -4,6 +4,7 @@
 mod code;
 mod examples;
 mod immediate;
+mod primitive;
 mod state;
 mod step;
 mod word;
