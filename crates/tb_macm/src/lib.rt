@@ -4,6 +4,7 @@
 mod code;
 mod examples;
 mod immediate;
+mod output;
 mod primitive;
 mod state;
 mod step;

@@ -1,7 +1,9 @@
 ghost use Rattle.std.specs.Prelude.{◌≡◌, ◌+◌, ◌<◌, ◌≤◌, ◌^◌, vec_len, slice_get, Option, Some, None};
 
-use super::{Step, Word, immediate_word};
-use tb_prim::Stop;
+ghost use Rattle.tb_macm.specs.MacStep.{place_of};
+
+use super::{PlaceEntry, Step, Word, immediate_word};
+use tb_prim::{Place, Stop};
 
 /// The state of the machine: the number of the next instruction, the registers, the words of the heap and
 /// the stack, and the two word numbers between which no word is in use.
@@ -176,4 +178,11 @@ impl State {
         self.set_register(a, self.registers[b as usize]);
         Step::Went(None)
     }
+}
+
+/// The place of an instruction.
+pub fn place_of(places: &[PlaceEntry], instr: u32) -> Option<Place>
+    ensures { result ≡ place_of places.now instr }
+{
+    places.iter().find(|entry| entry.instr == instr).map(|entry| entry.place)
 }
