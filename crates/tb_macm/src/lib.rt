@@ -3,6 +3,7 @@
 
 mod code;
 mod examples;
+mod fetch;
 mod immediate;
 mod output;
 mod primitive;

@@ -2,8 +2,11 @@ ghost use Rattle.std.specs.Prelude.{◌≡◌, ◌+◌, ◌<◌, ◌≤◌, ◌^
 
 ghost use Rattle.tb_macm.specs.MacStep.{place_of};
 
+use super::output::put_byte;
+use super::primitive::Answer;
 use super::{PlaceEntry, Step, Word, immediate_word};
-use tb_prim::{Place, Stop};
+use tb_base::Sink;
+use tb_prim::{Event, Place, Stop};
 
 /// The state of the machine: the number of the next instruction, the registers, the words of the heap and
 /// the stack, and the two word numbers between which no word is in use.
@@ -21,9 +24,9 @@ pub struct State {
 
 impl State {
     ghost use Rattle.std.specs.Prelude.{◌≡◌, ◌+◌, ◌<◌, ◌≤◌, ◌^◌, vec_len, slice_get, Option, Some, None};
-    ghost use Rattle.tb_macm.specs.MacStep.{Mac, set_register, set_word, jump_to, top_size, slot_at, stuck, goes, save, load, store, branch, immediate, copy};
+    ghost use Rattle.tb_macm.specs.MacStep.{Mac, set_register, set_word, jump_to, top_size, slot_at, stuck, goes, save, load, store, branch, immediate, copy, finish};
     ghost use Rattle.tb_macm.specs.States.{mac_of};
-    ghost use Rattle.tb_macm.specs.Steps.{Does};
+    ghost use Rattle.tb_macm.specs.Steps.{Does, StepDoes, byte_put};
 
     /// A register gets a word, and the next instruction follows.
     fn set_register(&mut self, a: u8, w: Word)
@@ -177,6 +180,37 @@ impl State {
     {
         self.set_register(a, self.registers[b as usize]);
         Step::Went(None)
+    }
+
+    /// A register gets the answer of a primitive, or the machine fails at the instruction's place. A byte is
+    /// put first, so that the state stays where it is not taken.
+    pub fn finish<O: Sink>(&mut self, places: &[PlaceEntry], a: u8, answer: Answer, out: &mut O) -> Step
+        requires register { a ≤ 16 }
+        requires room { self.old.pc < 2 ^ 24 }
+        ensures does { let outcome = finish places.now a (mac_of self.old) answer in
+            StepDoes outcome (mac_of self.old) (mac_of self.new) (O.held out.old) (O.held out.new)
+                (O.faults out.old) (O.faults out.new) result }
+        ensures untouched { byte_put (finish places.now a (mac_of self.old) answer) ≡ None → out.new ≡ out.old }
+        ensures later { O.faults out.old ≤ O.faults out.new }
+    {
+        match answer {
+            Answer::Gives(w) => {
+                self.set_register(a, w);
+                Step::Went(None)
+            }
+            Answer::Puts(byte) => {
+                if !put_byte(out, byte) {
+                    return Step::Stopped(Stop::WriteFault);
+                }
+                self.set_register(a, Word::Special(3));
+                Step::Went(Some(Event::Put(byte)))
+            }
+            Answer::Fails(cause) => match place_of(places, self.pc) {
+                Some(place) => Step::Stopped(Stop::Fail(cause, place)),
+                None => self.stuck(),
+            },
+            Answer::NoNextStep => self.stuck(),
+        }
     }
 }
 
