@@ -1,10 +1,11 @@
-ghost use Rattle.std.specs.Prelude.{◌≡◌, ◌+◌, ◌<◌, ◌≤◌, ◌^◌, vec_len, slice_get, Option, Some, None};
+ghost use Rattle.std.specs.Prelude.{◌≡◌, ◌+◌, ◌<◌, ◌≤◌, ◌^◌, vec_len, length, slice_get, Option, Some, None};
 
 ghost use Rattle.tb_macm.specs.MacStep.{place_of};
 
 use super::output::put_byte;
-use super::primitive::Answer;
-use super::{PlaceEntry, Step, Word, immediate_word};
+use super::fetch::fetch;
+use super::primitive::{Answer, binary, unary};
+use super::{Instr, MacCode, PlaceEntry, Step, Word, immediate_word};
 use tb_base::Sink;
 use tb_prim::{Event, Place, Stop};
 
@@ -23,8 +24,9 @@ pub struct State {
 }
 
 impl State {
-    ghost use Rattle.std.specs.Prelude.{◌≡◌, ◌+◌, ◌<◌, ◌≤◌, ◌^◌, vec_len, slice_get, Option, Some, None};
-    ghost use Rattle.tb_macm.specs.MacStep.{Mac, set_register, set_word, jump_to, top_size, slot_at, stuck, goes, save, load, store, branch, immediate, copy, finish};
+    ghost use Rattle.std.specs.Prelude.{◌≡◌, ◌+◌, ◌<◌, ◌≤◌, ◌^◌, vec_len, length, slice_get, Option, Some, None};
+    ghost use Rattle.tb_macm.specs.MacStep.{Mac, set_register, set_word, jump_to, top_size, slot_at, stuck, goes, save, load, store, branch, immediate, copy, finish, apply_1, apply_2, perform, mac_step};
+    ghost use Rattle.tb_macm.specs.Rules.{InstrOk};
     ghost use Rattle.tb_macm.specs.States.{mac_of};
     ghost use Rattle.tb_macm.specs.Steps.{Does, StepDoes, byte_put};
 
@@ -210,6 +212,75 @@ impl State {
                 None => self.stuck(),
             },
             Answer::NoNextStep => self.stuck(),
+        }
+    }
+
+    fn apply_1<O: Sink>(&mut self, places: &[PlaceEntry], a: u8, b: u8, number: u32, out: &mut O) -> Step
+        requires target { a ≤ 16 }
+        requires operand { b ≤ 16 }
+        requires room { self.old.pc < 2 ^ 24 }
+        ensures does { let outcome = apply_1 places.now a b number (mac_of self.old) in
+            StepDoes outcome (mac_of self.old) (mac_of self.new) (O.held out.old) (O.held out.new)
+                (O.faults out.old) (O.faults out.new) result }
+        ensures untouched { byte_put (apply_1 places.now a b number (mac_of self.old)) ≡ None → out.new ≡ out.old }
+        ensures later { O.faults out.old ≤ O.faults out.new }
+    {
+        let answer = unary(number, self.registers[b as usize]);
+        self.finish(places, a, answer, out)
+    }
+
+    fn apply_2<O: Sink>(&mut self, places: &[PlaceEntry], a: u8, b: u8, c: u8, number: u32, out: &mut O) -> Step
+        requires target { a ≤ 16 }
+        requires first { b ≤ 16 }
+        requires second { c ≤ 16 }
+        requires room { self.old.pc < 2 ^ 24 }
+        ensures does { let outcome = apply_2 places.now a b c number (mac_of self.old) in
+            StepDoes outcome (mac_of self.old) (mac_of self.new) (O.held out.old) (O.held out.new)
+                (O.faults out.old) (O.faults out.new) result }
+        ensures untouched { byte_put (apply_2 places.now a b c number (mac_of self.old)) ≡ None → out.new ≡ out.old }
+        ensures later { O.faults out.old ≤ O.faults out.new }
+    {
+        let answer = binary(number, self.registers[b as usize], self.registers[c as usize]);
+        self.finish(places, a, answer, out)
+    }
+
+    /// Makes the step of this instruction.
+    #[tactic(auto, using(crate::proofs::StepLaws::quiet_step))]
+    fn perform<O: Sink>(&mut self, code: &MacCode, instr: Instr, out: &mut O) -> Step
+        requires fields { InstrOk (length code.now.code) instr }
+        requires room { self.old.pc < 2 ^ 24 }
+        ensures does { let outcome = perform code.now.places (mac_of self.old) instr in
+            StepDoes outcome (mac_of self.old) (mac_of self.new) (O.held out.old) (O.held out.new)
+                (O.faults out.old) (O.faults out.new) result }
+        ensures untouched { byte_put (perform code.now.places (mac_of self.old) instr) ≡ None → out.new ≡ out.old }
+        ensures later { O.faults out.old ≤ O.faults out.new }
+    {
+        match instr {
+            Instr::Save(x) => self.save(x),
+            Instr::Load(a, x) => self.load(a, x),
+            Instr::Store(a, x) => self.store(a, x),
+            Instr::Jump(x) => self.jump(x),
+            Instr::Brf(a, x) => self.branch(a, x),
+            Instr::Imm(a, x) => self.immediate(a, x),
+            Instr::Move(a, b) => self.copy(a, b),
+            Instr::End => Step::Stopped(Stop::End),
+            Instr::Op1(a, b, x) => self.apply_1(code.places.as_slice(), a, b, x, out),
+            Instr::Op2(a, b, c, x) => self.apply_2(code.places.as_slice(), a, b, c, x, out),
+        }
+    }
+
+    /// Makes the step of the instruction that stands at the pc.
+    #[tactic(auto, using(crate::proofs::StepLaws::quiet_step))]
+    pub fn step<O: Sink>(&mut self, code: &MacCode, out: &mut O) -> Step
+        ensures does { let outcome = mac_step code.now.code code.now.places (mac_of self.old) in
+            StepDoes outcome (mac_of self.old) (mac_of self.new) (O.held out.old) (O.held out.new)
+                (O.faults out.old) (O.faults out.new) result }
+        ensures untouched { byte_put (mac_step code.now.code code.now.places (mac_of self.old)) ≡ None → out.new ≡ out.old }
+        ensures later { O.faults out.old ≤ O.faults out.new }
+    {
+        match fetch(code, self.pc) {
+            Some(instr) => self.perform(code, instr, out),
+            None => self.stuck(),
         }
     }
 }
