@@ -4,10 +4,7 @@ use Rattle.std.proofs.lemmas.Option.{get_or_from_slice_get, slice_get_within}
 use Rattle.std.proofs.lemmas.List.Elements.{All-get_or}
 use Rattle.tb_macm.specs.declared.code.Instr.{Instr}
 use Rattle.tb_macm.specs.declared.code.Instr.TheVariants.{Save, Load, Store, Jump, Brf, Imm, Move, End, Op1, Op2}
-use Rattle.tb_macm.specs.declared.code.LiveMap.{LiveMap}
-use Rattle.tb_macm.specs.declared.code.PlaceEntry.{PlaceEntry}
-use Rattle.tb_macm.specs.declared.code.Parts.{Parts}
-use Rattle.tb_macm.specs.Rules.{InstrOk, KeepsRules}
+use Rattle.tb_macm.specs.Rules.{InstrOk}
 use Rattle.std.proofs.Props.{props}
 
 -- there is at most one proof that an instruction's fields are in range

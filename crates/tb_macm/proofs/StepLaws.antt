@@ -1,7 +1,5 @@
 -- What steps without output do, as steps that may have output.
-use Rattle.std.proofs.Common.{◌≡◌, ℕ, List, [], Option, Some, None, refl, sym, ap, inl, append-nil}
-use Rattle.tb_prim.specs.declared.event.Event.{Event}
-use Rattle.tb_prim.specs.declared.event.Stop.{Stop}
+use Rattle.std.proofs.Common.{ℕ, List, [], Option, Some, None, sym, ap, inl, append-nil}
 use Rattle.tb_macm.specs.declared.step.Step.{Step}
 use Rattle.tb_macm.specs.MacStep.{Mac, Outcome}
 use Rattle.tb_macm.specs.Steps.{Does, StepDoes, Adds}

@@ -20,9 +20,17 @@ pub fn immediate_word(bits: u32) -> Option<Word>
     if bits % 4 == 0 {
         Some(Word::Fix(fixnum(bits)))
     } else if bits % 256 == 10 {
-        if bits / 256 < 256 { Some(Word::Char((bits / 256) as u8)) } else { None }
+        if bits / 256 < 256 {
+            Some(Word::Char((bits / 256) as u8))
+        } else {
+            None
+        }
     } else if bits % 256 == 2 {
-        if bits / 256 < 6 { Some(Word::Special((bits / 256) as u8)) } else { None }
+        if bits / 256 < 6 {
+            Some(Word::Special((bits / 256) as u8))
+        } else {
+            None
+        }
     } else {
         None
     }

@@ -16,13 +16,21 @@ pub enum Answer {
 fn fixnum(v: i64) -> Answer
     ensures { result ≡ fixnum v }
 {
-    if v >= -536870912 && v <= 536870911 { Answer::Gives(Word::Fix(v as i32)) } else { Answer::Fails(Cause::Overflow) }
+    if v >= -536870912 && v <= 536870911 {
+        Answer::Gives(Word::Fix(v as i32))
+    } else {
+        Answer::Fails(Cause::Overflow)
+    }
 }
 
 fn boolean(holds: bool) -> Answer
     ensures { result ≡ boolean holds }
 {
-    if holds { Answer::Gives(Word::Special(1)) } else { Answer::Gives(Word::Special(0)) }
+    if holds {
+        Answer::Gives(Word::Special(1))
+    } else {
+        Answer::Gives(Word::Special(0))
+    }
 }
 
 fn write_char(u: Word) -> Answer
@@ -38,7 +46,11 @@ fn write_char(u: Word) -> Answer
 pub fn unary(number: u32, u: Word) -> Answer
     ensures { result ≡ primitive_1 number u }
 {
-    if number == Prim::WriteChar as u32 { write_char(u) } else { Answer::NoNextStep }
+    if number == Prim::WriteChar as u32 {
+        write_char(u)
+    } else {
+        Answer::NoNextStep
+    }
 }
 
 fn sum(i: i32, j: i32) -> Answer
@@ -73,7 +85,10 @@ fn arithmetic(number: u32, i: i32, j: i32) -> Answer
 fn is_arithmetic(number: u32) -> bool
     ensures { IsTrue result ↔ ((number ≡ 17) ⊎ (number ≡ 18) ⊎ (number ≡ 23) ⊎ (number ≡ 24)) }
 {
-    number == Prim::Add as u32 || number == Prim::Sub as u32 || number == Prim::NumEq as u32 || number == Prim::Less as u32
+    number == Prim::Add as u32
+        || number == Prim::Sub as u32
+        || number == Prim::NumEq as u32
+        || number == Prim::Less as u32
 }
 
 /// The primitives of two operands, by number.

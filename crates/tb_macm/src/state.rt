@@ -1,9 +1,8 @@
 ghost use Rattle.std.specs.Prelude.{◌≡◌, ◌+◌, ◌<◌, ◌≤◌, ◌^◌, vec_len, length, slice_get, Option, Some, None};
-
 ghost use Rattle.tb_macm.specs.MacStep.{place_of};
 
-use super::output::put_byte;
 use super::fetch::fetch;
+use super::output::put_byte;
 use super::primitive::{Answer, binary, unary};
 use super::{Instr, MacCode, PlaceEntry, Step, Word, immediate_word};
 use tb_base::Sink;
@@ -71,7 +70,11 @@ impl State {
     {
         let size = self.top_size()?;
         let at = self.stack_pointer + 2 + x;
-        if x < size && (at as usize) < self.memory.len() { Some(at) } else { None }
+        if x < size && (at as usize) < self.memory.len() {
+            Some(at)
+        } else {
+            None
+        }
     }
 
     /// No step can be made.
@@ -186,12 +189,18 @@ impl State {
 
     /// A register gets the answer of a primitive, or the machine fails at the instruction's place. A byte is
     /// put first, so that the state stays where it is not taken.
-    pub fn finish<O: Sink>(&mut self, places: &[PlaceEntry], a: u8, answer: Answer, out: &mut O) -> Step
+    pub fn finish<O: Sink>(
+        &mut self,
+        places: &[PlaceEntry],
+        a: u8,
+        answer: Answer,
+        out: &mut O,
+    ) -> Step
         requires register { a ≤ 16 }
         requires room { self.old.pc < 2 ^ 24 }
         ensures does { let outcome = finish places.now a (mac_of self.old) answer in
             StepDoes outcome (mac_of self.old) (mac_of self.new) (O.held out.old) (O.held out.new)
-                (O.faults out.old) (O.faults out.new) result }
+            (O.faults out.old) (O.faults out.new) result }
         ensures untouched { byte_put (finish places.now a (mac_of self.old) answer) ≡ None → out.new ≡ out.old }
         ensures later { O.faults out.old ≤ O.faults out.new }
     {
@@ -215,13 +224,20 @@ impl State {
         }
     }
 
-    fn apply_1<O: Sink>(&mut self, places: &[PlaceEntry], a: u8, b: u8, number: u32, out: &mut O) -> Step
+    fn apply_1<O: Sink>(
+        &mut self,
+        places: &[PlaceEntry],
+        a: u8,
+        b: u8,
+        number: u32,
+        out: &mut O,
+    ) -> Step
         requires target { a ≤ 16 }
         requires operand { b ≤ 16 }
         requires room { self.old.pc < 2 ^ 24 }
         ensures does { let outcome = apply_1 places.now a b number (mac_of self.old) in
             StepDoes outcome (mac_of self.old) (mac_of self.new) (O.held out.old) (O.held out.new)
-                (O.faults out.old) (O.faults out.new) result }
+            (O.faults out.old) (O.faults out.new) result }
         ensures untouched { byte_put (apply_1 places.now a b number (mac_of self.old)) ≡ None → out.new ≡ out.old }
         ensures later { O.faults out.old ≤ O.faults out.new }
     {
@@ -229,18 +245,30 @@ impl State {
         self.finish(places, a, answer, out)
     }
 
-    fn apply_2<O: Sink>(&mut self, places: &[PlaceEntry], a: u8, b: u8, c: u8, number: u32, out: &mut O) -> Step
+    fn apply_2<O: Sink>(
+        &mut self,
+        places: &[PlaceEntry],
+        a: u8,
+        b: u8,
+        c: u8,
+        number: u32,
+        out: &mut O,
+    ) -> Step
         requires target { a ≤ 16 }
         requires first { b ≤ 16 }
         requires second { c ≤ 16 }
         requires room { self.old.pc < 2 ^ 24 }
         ensures does { let outcome = apply_2 places.now a b c number (mac_of self.old) in
             StepDoes outcome (mac_of self.old) (mac_of self.new) (O.held out.old) (O.held out.new)
-                (O.faults out.old) (O.faults out.new) result }
+            (O.faults out.old) (O.faults out.new) result }
         ensures untouched { byte_put (apply_2 places.now a b c number (mac_of self.old)) ≡ None → out.new ≡ out.old }
         ensures later { O.faults out.old ≤ O.faults out.new }
     {
-        let answer = binary(number, self.registers[b as usize], self.registers[c as usize]);
+        let answer = binary(
+            number,
+            self.registers[b as usize],
+            self.registers[c as usize],
+        );
         self.finish(places, a, answer, out)
     }
 
@@ -251,7 +279,7 @@ impl State {
         requires room { self.old.pc < 2 ^ 24 }
         ensures does { let outcome = perform code.now.places (mac_of self.old) instr in
             StepDoes outcome (mac_of self.old) (mac_of self.new) (O.held out.old) (O.held out.new)
-                (O.faults out.old) (O.faults out.new) result }
+            (O.faults out.old) (O.faults out.new) result }
         ensures untouched { byte_put (perform code.now.places (mac_of self.old) instr) ≡ None → out.new ≡ out.old }
         ensures later { O.faults out.old ≤ O.faults out.new }
     {
@@ -274,7 +302,7 @@ impl State {
     pub fn step<O: Sink>(&mut self, code: &MacCode, out: &mut O) -> Step
         ensures does { let outcome = mac_step code.now.code code.now.places (mac_of self.old) in
             StepDoes outcome (mac_of self.old) (mac_of self.new) (O.held out.old) (O.held out.new)
-                (O.faults out.old) (O.faults out.new) result }
+            (O.faults out.old) (O.faults out.new) result }
         ensures untouched { byte_put (mac_step code.now.code code.now.places (mac_of self.old)) ≡ None → out.new ≡ out.old }
         ensures later { O.faults out.old ≤ O.faults out.new }
     {
@@ -289,5 +317,8 @@ impl State {
 pub fn place_of(places: &[PlaceEntry], instr: u32) -> Option<Place>
     ensures { result ≡ place_of places.now instr }
 {
-    places.iter().find(|entry| entry.instr == instr).map(|entry| entry.place)
+    places
+        .iter()
+        .find(|entry| entry.instr == instr)
+        .map(|entry| entry.place)
 }
