@@ -12,6 +12,8 @@ pub enum Word {
     Raw([u8; 4]),
 }
 
+const _: () = prove!(size_of::<Word>() == 8);
+
 impl Word {
     ghost use Rattle.std.specs.Prelude.{◌≡◌};
     ghost use Rattle.tb_macm.specs.MacStep.{is_false};
