@@ -10,6 +10,8 @@ mod output;
 mod primitive;
 mod state;
 mod step;
+#[cfg(test)]
+mod tests;
 mod word;
 
 pub use code::{
