@@ -9,6 +9,8 @@ use Rattle.tb_macm.specs.declared.word.Word.TheVariants.{Fix, Special, Char, Hea
 use Rattle.tb_macm.specs.declared.code.Instr.{Instr}
 use Rattle.tb_macm.specs.declared.code.Instr.TheVariants.{Save, Load, Store, Jump, Brf, Imm, Move, End, Op1, Op2}
 use Rattle.tb_macm.specs.declared.code.PlaceEntry.{PlaceEntry}
+pub use Rattle.tb_macm.specs.declared.primitive.Answer.{Answer}
+pub use Rattle.tb_macm.specs.declared.primitive.Answer.TheVariants.{Gives, Puts, Fails, NoNextStep}
 use Rattle.tb_macm.specs.Words.{on_some, imm_word, frame_size}
 
 -- a state: the number of the next instruction, the 17 registers, the words of the heap and the stack, and
@@ -25,20 +27,9 @@ pub data Outcome : Type 0 where
   Went : Option Event → Mac → Outcome
   Stopped : Stop → Outcome
 
--- what a primitive of operands comes to: a value, a byte that is put, a failure, or no next step
-pub data Answer : Type 0 where
-  Gives : Word → Answer
-  Puts : ℕ → Answer
-  Fails : Cause → Answer
-  NoNextStep : Answer
-
 -- there is no next step
 abbrev pub stuck : Mac → Outcome
 stuck m = Stopped (Stop.Stuck m.pc)
-
--- the next instruction follows
-abbrev pub follow : Mac → Outcome
-follow m = Went None (record m { pc = m.pc + 1 })
 
 -- a register gets a word, and the next instruction follows
 abbrev pub set_register : ℕ → Word → Mac → Mac
@@ -141,18 +132,46 @@ finish places a m (Puts b) = Went (Some (Event.Put b)) (set_register a (Special 
 finish places a m (Fails c) = on_some (place_of places m.pc) (stuck m) (λ p. Stopped (Stop.Fail c p))
 finish places a m NoNextStep = stuck m
 
+-- a register gets a slot of the frame on top
+abbrev pub load : ℕ → ℕ → Mac → Outcome
+load a x m = on_some (slot_at m x) (stuck m) (λ at. on_some (slice_get m.memory at) (stuck m) (λ w. goes (set_register a w m)))
+
+-- a slot of the frame on top gets a register
+abbrev pub store : ℕ → ℕ → Mac → Outcome
+store a x m = on_some (slot_at m x) (stuck m) (λ at. on_some (slice_get m.registers a) (stuck m) (λ w. goes (set_word at w m)))
+
+-- the machine goes on at x where the register is false
+abbrev pub branch : ℕ → ℕ → Mac → Outcome
+branch a x m = on_some (slice_get m.registers a) (stuck m) (λ w. goes (jump_to (cond (is_false w) x (m.pc + 1)) m))
+
+-- a register gets the word that these bits stand for
+abbrev pub immediate : ℕ → ℕ → Mac → Outcome
+immediate a x m = on_some (imm_word x) (stuck m) (λ w. goes (set_register a w m))
+
+-- a register gets the word of another
+abbrev pub copy : ℕ → ℕ → Mac → Outcome
+copy a b m = on_some (slice_get m.registers b) (stuck m) (λ w. goes (set_register a w m))
+
+-- a register gets the answer of a primitive of one register
+abbrev pub apply_1 : List PlaceEntry → ℕ → ℕ → ℕ → Mac → Outcome
+apply_1 places a b x m = on_some (slice_get m.registers b) (stuck m) (λ u. finish places a m (primitive_1 x u))
+
+-- a register gets the answer of a primitive of two registers
+abbrev pub apply_2 : List PlaceEntry → ℕ → ℕ → ℕ → ℕ → Mac → Outcome
+apply_2 places a b c x m = on_some (slice_get m.registers b) (stuck m) (λ u. on_some (slice_get m.registers c) (stuck m) (λ v. finish places a m (primitive_2 x u v)))
+
 -- what an instruction does
 abbrev pub perform : List PlaceEntry → Mac → Instr → Outcome
 perform places m (Save x) = save x m
-perform places m (Load a x) = on_some (slot_at m x) (stuck m) (λ at. on_some (slice_get m.memory at) (stuck m) (λ w. goes (set_register a w m)))
-perform places m (Store a x) = on_some (slot_at m x) (stuck m) (λ at. on_some (slice_get m.registers a) (stuck m) (λ w. goes (set_word at w m)))
+perform places m (Load a x) = load a x m
+perform places m (Store a x) = store a x m
 perform places m (Jump x) = goes (jump_to x m)
-perform places m (Brf a x) = on_some (slice_get m.registers a) (stuck m) (λ w. goes (jump_to (cond (is_false w) x (m.pc + 1)) m))
-perform places m (Imm a x) = on_some (imm_word x) (stuck m) (λ w. goes (set_register a w m))
-perform places m (Move a b) = on_some (slice_get m.registers b) (stuck m) (λ w. goes (set_register a w m))
+perform places m (Brf a x) = branch a x m
+perform places m (Imm a x) = immediate a x m
+perform places m (Move a b) = copy a b m
 perform places m End = Stopped Stop.End
-perform places m (Op1 a b x) = on_some (slice_get m.registers b) (stuck m) (λ u. finish places a m (primitive_1 x u))
-perform places m (Op2 a b c x) = on_some (slice_get m.registers b) (stuck m) (λ u. on_some (slice_get m.registers c) (stuck m) (λ v. finish places a m (primitive_2 x u v)))
+perform places m (Op1 a b x) = apply_1 places a b x m
+perform places m (Op2 a b c x) = apply_2 places a b c x m
 
 -- the step from a state, by the instruction that stands there
 abbrev pub mac_step : List Instr → List PlaceEntry → Mac → Outcome

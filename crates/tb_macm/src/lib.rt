@@ -3,6 +3,15 @@
 
 mod code;
 mod examples;
+mod fetch;
+mod immediate;
+mod machine;
+mod output;
+mod primitive;
+mod state;
+mod step;
+#[cfg(test)]
+mod tests;
 mod word;
 
 pub use code::{
@@ -10,4 +19,7 @@ pub use code::{
     OrderRow, Parts, PlaceEntry, PlaceRow,
 };
 pub use examples::runs_compute;
+pub use immediate::immediate_word;
+pub use machine::{LoadRefusal, MacMachine};
+pub use step::Step;
 pub use word::Word;

@@ -11,3 +11,20 @@ pub enum Word {
     Code(u32),
     Raw([u8; 4]),
 }
+
+const _: () = prove!(size_of::<Word>() == 8);
+
+impl Word {
+    ghost use Rattle.std.specs.Prelude.{◌≡◌};
+    ghost use Rattle.tb_macm.specs.MacStep.{is_false};
+
+    /// The word is false, which alone counts as false (R5RS 6.3.1).
+    pub fn is_false(self) -> bool
+        ensures { result ≡ is_false self }
+    {
+        match self {
+            Word::Special(number) => number == 0,
+            _ => false,
+        }
+    }
+}
