@@ -2,3 +2,4 @@ pub mod Steps
 pub mod Cuts
 pub mod Reached
 pub mod RulesOnce
+pub mod Windows

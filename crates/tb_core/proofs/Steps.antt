@@ -9,7 +9,7 @@ use Rattle.tb_core.specs.Store.{Value, Fix, Char, Truth, Nil, Unspecified, Undef
 use Rattle.tb_core.specs.Effects.{Effect, Gives, Makes, Changes, Puts, Takes, Peeks, Fails, Misused}
 use Rattle.tb_core.specs.Reference
 use Rattle.tb_core.specs.Reference.{Control, Eval, Bound, Val, Entering, Work, Sel, SetVar, SetGlo, Rest, Args, Top, Frame, Config, State, Running, Stopped, Lost, Context, Walked, Elements, TooLong, NoList, events_of, reference}
-use Rattle.tb_core.specs.Events.{is_last, GoOn, Ends, EndsLast}
+use Rattle.tb_core.specs.Events.{is_last, NoneLast, Ends, EndsLast}
 
 -- the state after a step from a configuration with these events
 pub data Stepped (es : List Event) : State → Type 0 where
@@ -168,11 +168,11 @@ in_order p order input (Running c es) = appends es _ (stepped (Reference.context
 in_order p order input (Stopped c es) = same es
 in_order p order input (Lost c es) = same es
 
-go_on : (es : List Event) (e : Event) → GoOn es → is_last e ≡ false → GoOn (es ++ e ∷ [])
+go_on : (es : List Event) (e : Event) → NoneLast es → is_last e ≡ false → NoneLast (es ++ e ∷ [])
 go_on [] e g h = (h, tt)
 go_on (d ∷ es) e g h = (g.0, go_on es e g.1 h)
 
-ends_last_step : (es : List Event) (s : State) → GoOn es → Stepped es s → EndsLast s
+ends_last_step : (es : List Event) (s : State) → NoneLast es → Stepped es s → EndsLast s
 ends_last_step es (Running c _) g quiet = g
 ends_last_step es (Running c _) g (emits e h) = go_on es e g h
 ends_last_step es (Stopped c _) g (stops e h) = record { front = es; last = e; whole = refl; goes_on = g; stops = h }

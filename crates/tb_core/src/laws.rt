@@ -2,10 +2,10 @@ ghost use Rattle.std.specs.Prelude.{◌≡◌, ◌≤◌, ℕ, ◌+◌, List, Op
 ghost use Rattle.tb_prim.specs.declared.event.Event.{Event};
 ghost use Rattle.tb_semantics.specs.Graph.{ListsReachable, sum_of};
 ghost use Rattle.tb_semantics.specs.Runs.{EmitsInOrder, IsPrefix, after};
-ghost use Rattle.tb_core.specs.Events.{EndsLast};
+ghost use Rattle.tb_core.specs.Events.{EndsLast, ComesToCall};
 ghost use Rattle.tb_core.specs.FreeVariables.{is_in};
 ghost use Rattle.tb_core.specs.OperandOrder.{Line};
-ghost use Rattle.tb_core.specs.Reference.{Config, Stopped, events_of, reference};
+ghost use Rattle.tb_core.specs.Reference.{Config, State, Stopped, events_of, reference};
 ghost use Rattle.tb_core.specs.Space.{made, own_words, size_at, space, store_graph};
 ghost use Rattle.tb_core.specs.Store.{Env, cut, lookup};
 ghost use Rattle.tb_core.specs.Tree.{ProgramTree};
@@ -24,6 +24,12 @@ pub fn emits_in_order()
 /// A run stops with End or Fail, and emits neither before that.
 pub fn ends_last()
     ensures law { (p : ProgramTree) (order : List Line) (input : List ℕ) (n : ℕ) → EndsLast (after (reference p order input) n) }
+{}
+
+/// Between two calls there are finitely many steps: from each state a run comes to a further call, or to a
+/// state without a next step.
+pub fn windows_are_finite()
+    ensures law { (p : ProgramTree) (order : List Line) (input : List ℕ) (s : State) → ComesToCall (reference p order input).step s }
 {}
 
 /// An environment that is cut has each variable of the list where it was, and no other.
