@@ -1,8 +1,8 @@
 -- The rules of a program hold in one way, so a program has them whole.
-use Rattle.std.proofs.Common.{◌≡◌, ℕ, zero, suc, ◌<◌, ◌≤◌, ◌^◌, Bool, true, false, List, [], ◌∷◌}
+use Rattle.std.proofs.Common.{ℕ, suc, ◌<◌, ◌^◌, Bool, List, [], ◌∷◌}
 use Rattle.std.proofs.Math.Logic.{∥∥₁_elim}
 use Rattle.std.proofs.Props.{props}
-use Rattle.std.specs.Coded.{×_prop, Π_prop, →_prop, Unit-prop}
+use Rattle.std.specs.Coded.{×_prop, →_prop, Unit-prop}
 use Rattle.tb_prim.specs.declared.constant.Const.{Const}
 use Rattle.tb_prim.specs.declared.constant.Static.{Static}
 use Rattle.tb_semantics.specs.Graph.{IsApart}

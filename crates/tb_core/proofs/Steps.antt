@@ -1,15 +1,15 @@
 -- What a step of the reference machine emits, by cases of the step.
-use Rattle.std.proofs.Common.{◌≡◌, refl, sym, ap, ◌∙◌, subst, ℕ, zero, suc, ◌+◌, ◌≤◌, arith, Bool, true, false, cond, ◌==◌, List, [], ◌∷◌, ◌++◌, length, Option, Some, None, append-nil}
+use Rattle.std.proofs.Common.{◌≡◌, refl, sym, ℕ, zero, suc, arith, Bool, true, false, cond, List, [], ◌∷◌, ◌++◌, Option, Some, None, append-nil}
 use Rattle.tb_prim.specs.declared.place.Place.{Place}
 use Rattle.tb_prim.specs.declared.event.Event.{Event}
-use Rattle.tb_semantics.specs.Runs.{Appends, EmitsInOrder, Machine, run, after}
-use Rattle.tb_core.specs.Tree.{Tree, Node, Form, Quote, Local, Global, Lambda, If, SetLocal, SetGlobal, DefGlobal, Let, Letrec, Seq, Call, PrimUse, Apply, Trees, none, more, tree_at, LambdaTree, ProgramTree}
+use Rattle.tb_semantics.specs.Runs.{Appends, EmitsInOrder, run, after}
+use Rattle.tb_core.specs.Tree.{Tree, Node, Form, Quote, Local, Global, Lambda, If, SetLocal, SetGlobal, DefGlobal, Let, Letrec, Seq, Call, PrimUse, Apply, Trees, none, more, LambdaTree, ProgramTree}
 use Rattle.tb_core.specs.OperandOrder.{Line}
-use Rattle.tb_core.specs.Store.{Value, Fix, Char, Truth, Nil, Unspecified, Undefined, EndObject, At, Env, Item, Var, Pair, Vec, Str, Sym, Clo, lookup}
+use Rattle.tb_core.specs.Store.{Value, Undefined, At, Env, Item, Clo, lookup}
 use Rattle.tb_core.specs.Effects.{Effect, Gives, Makes, Changes, Puts, Takes, Peeks, Fails, Misused}
 use Rattle.tb_core.specs.Reference
 use Rattle.tb_core.specs.Reference.{Control, Eval, Bound, Val, Entering, Work, Sel, SetVar, SetGlo, Rest, Args, Top, Frame, Config, State, Running, Stopped, Lost, Context, Walked, Elements, TooLong, NoList, events_of, reference}
-use Rattle.tb_core.specs.Events.{is_last, NoneLast, Ends, EndsLast}
+use Rattle.tb_core.specs.Events.{is_last, NoneLast, EndsLast}
 
 -- the state after a step from a configuration with these events
 pub data Stepped (es : List Event) : State → Type 0 where

@@ -1,6 +1,6 @@
 -- The order in which operands are evaluated (this project's own; R5RS 4.1.3 leaves it open): the complex
 -- operands first in written order, then the simple ones in written order.
-use Rattle.std.specs.Prelude.{◌≡◌, ℕ, zero, suc, ◌+◌, List, [], ◌∷◌, ◌++◌, not, Bool, true, false, cond, ◌==◌}
+use Rattle.std.specs.Prelude.{ℕ, suc, List, [], ◌∷◌, ◌++◌, not, Bool, true, false, cond, ◌==◌}
 use Rattle.tb_prim.specs.declared.place.Place.{Place}
 use Rattle.tb_core.specs.Tree.{Tree, Node, Form, Quote, Local, Global, Lambda, If, SetLocal, SetGlobal, DefGlobal, Let, Letrec, Seq, Call, PrimUse, Apply, Trees, none, more, LambdaTree, ProgramTree}
 use Rattle.tb_core.specs.FreeVariables.{is_assigned}
