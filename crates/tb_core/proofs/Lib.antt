@@ -3,3 +3,5 @@ pub mod Cuts
 pub mod Reached
 pub mod RulesOnce
 pub mod Windows
+pub mod Members
+pub mod Numbers
