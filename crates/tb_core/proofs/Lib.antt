@@ -5,3 +5,4 @@ pub mod RulesOnce
 pub mod Windows
 pub mod Members
 pub mod Numbers
+pub mod Stores

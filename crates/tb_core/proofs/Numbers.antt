@@ -7,7 +7,7 @@ use Rattle.tb_prim.specs.declared.place.Place.{Place}
 use Rattle.tb_semantics.specs.Graph.{IsIn, IsApart}
 use Rattle.tb_core.specs.Tree.{Tree, Node, Form, Quote, Local, Global, Lambda, If, SetLocal, SetGlobal, DefGlobal, Let, Letrec, Seq, Call, PrimUse, Apply, Trees, none, more, LambdaTree, ProgramTree, parameters}
 use Rattle.tb_core.specs.FreeVariables.{is_in, is_assigned, without, of_lambdas, free, free_form, free_all, lambda_free, lambdas_free, inner_free}
-use Rattle.tb_core.specs.OperandOrder.{Line, operands, has_order, line_of, own_line, lines, lines_form, lines_all, lines_of_lambdas, lambdas_lines, order_of, line_at}
+use Rattle.tb_core.specs.OperandOrder.{Line, operands, has_order, line_of, own_line, lines, lines_form, lines_all, lines_of_lambdas, lambdas_lines, order_of, line_at, HasLine}
 use Rattle.tb_core.specs.Rules.{Every, Each, EachForm, EachAll, InnerAreGreater, KeepsRules, inner, inner_form, inner_all, inner_of_lambdas, standing}
 use Rattle.tb_core.proofs.Members.{in-left, in-right, in-either, in-tested, append-same}
 
@@ -143,3 +143,131 @@ lines_at a (m ∷ ms) first (suc k) n l q h e =
     ∙ lines_at a ms (suc first) k n l (omega arith) h.1 e
     ∙ lines_same a (lambdas_lines a ms (suc first)) (lambdas_lines a (m ∷ ms) first) l.body
     (λ v i. let j = greater_at (m ∷ ms) first (suc k) l h e v i in sym (past_first first v _ _ (omega arith)))
+
+-- the lines of a lambda expression that stands in an expression are among those of the expression
+module _ (a : ℕ → Bool) (f : ℕ → List Line) (m : ℕ) (n : Line) (i : IsIn n (f m)) where
+  standing_lambdas : (ls : List ℕ) → IsIn m ls → IsIn n (lines_of_lambdas f ls)
+  standing_lambdas [] j = absurd j
+  standing_lambdas (l ∷ ls) (inl e) = in-left n (f l) _ (subst (λ k. IsIn n (f k)) (sym e) i)
+  standing_lambdas (l ∷ ls) (inr j) = in-right n (f l) _ (standing_lambdas ls j)
+
+  mutual
+    standing_lines : (e : Tree) → IsIn m (inner e) → IsIn n (lines a f e)
+    standing_lines (Node p s k) j = in-right n (own_line a p s k) _ (standing_form k j)
+
+    standing_form : (k : Form) → IsIn m (inner_form k) → IsIn n (lines_form a f k)
+    standing_form (Quote c) j = absurd j
+    standing_form (Local x) j = absurd j
+    standing_form (Global v) j = absurd j
+    standing_form (Lambda l) (inl e) = subst (λ k. IsIn n (f k)) (sym e) i
+    standing_form (Lambda l) (inr j) = absurd j
+    standing_form (If b c d) j =
+        ⊎_elim (λ h. in-left n (lines a f b) _ (standing_lines b h))
+        (λ h. in-right n (lines a f b) _ (⊎_elim (λ g. in-left n (lines a f c) _ (standing_lines c g)) (λ g. in-right n (lines a f c) _ (standing_lines d g)) (in-either m (inner c) (inner d) h)))
+        (in-either m (inner b) _ j)
+    standing_form (SetLocal x e) j = standing_lines e j
+    standing_form (SetGlobal v e) j = standing_lines e j
+    standing_form (DefGlobal v e) j = standing_lines e j
+    standing_form (Let xs es e) j =
+        ⊎_elim (λ h. in-left n (lines_all a f es) _ (standing_all es h)) (λ h. in-right n (lines_all a f es) _ (standing_lines e h)) (in-either m (inner_all es) _ j)
+    standing_form (Letrec xs ls e) j =
+        ⊎_elim (λ h. in-left n (lines_of_lambdas f ls) _ (standing_lambdas ls h)) (λ h. in-right n (lines_of_lambdas f ls) _ (standing_lines e h)) (in-either m ls _ j)
+    standing_form (Seq es) j = standing_all es j
+    standing_form (Call b es) j =
+        ⊎_elim (λ h. in-left n (lines a f b) _ (standing_lines b h)) (λ h. in-right n (lines a f b) _ (standing_all es h)) (in-either m (inner b) _ j)
+    standing_form (PrimUse q es) j = standing_all es j
+    standing_form (Apply b c) j =
+        ⊎_elim (λ h. in-left n (lines a f b) _ (standing_lines b h)) (λ h. in-right n (lines a f b) _ (standing_lines c h)) (in-either m (inner b) _ j)
+
+    standing_all : (es : Trees) → IsIn m (inner_all es) → IsIn n (lines_all a f es)
+    standing_all none j = absurd j
+    standing_all (more e es) j =
+        ⊎_elim (λ h. in-left n (lines a f e) _ (standing_lines e h)) (λ h. in-right n (lines a f e) _ (standing_all es h)) (in-either m (inner e) _ j)
+
+-- the lambda expression in whose body another stands
+around : (ls : List LambdaTree) (m : ℕ) → IsIn m (inner_of_lambdas ls) → (k : ℕ) × (l : LambdaTree) × (slice_get ls k ≡ Some l) × IsIn m (inner l.body)
+around [] m i = absurd i
+around (l ∷ ls) m i =
+    ⊎_elim (λ h. (0, l, refl, h)) (λ h. let r = around ls m h in (suc r.0, r.1, r.2, r.3)) (in-either m (inner l.body) _ i)
+
+within : {X : Type 0} (xs : List X) (k : ℕ) (x : X) → slice_get xs k ≡ Some x → k < length xs
+within [] k x e = cc
+within (y ∷ xs) zero x e = omega arith
+within (y ∷ xs) (suc k) x e = let h = within xs k x e in omega arith
+
+-- the line of a site, where no other line has it
+line_found : (ls : List Line) (n : Line) → IsApart (map (λ (l : Line). l.site) ls) → IsIn n ls → line_at ls n.site ≡ n.order
+line_found [] n h i = absurd i
+line_found (l ∷ ls) n h (inl e) = at_first l.site n.site _ _ (ap (λ (k : Line). k.site) e) ∙ ap (λ (k : Line). k.order) e
+line_found (l ∷ ls) n h (inr i) =
+    ap (λ b. cond b l.order (line_at ls n.site)) (ne_eqb l.site n.site (λ e. h.0 (mapped_in ls n l.site (sym e) i)))
+    ∙ line_found ls n h.1 i
+  where
+    mapped_in : (ks : List Line) (n : Line) (s : ℕ) → n.site ≡ s → IsIn n ks → IsIn s (map (λ (l : Line). l.site) ks)
+    mapped_in [] n s e i = absurd i
+    mapped_in (k ∷ ks) n s e (inl q) = inl (ap (λ (v : Line). v.site) q ∙ e)
+    mapped_in (k ∷ ks) n s e (inr i) = inr (mapped_in ks n s e i)
+
+abbrev by_number : ProgramTree → ℕ → List Line
+by_number p = lambdas_lines (is_assigned p) p.lambdas 0
+
+-- each line of a lambda expression is one of the program's
+lambda_lines : (p : ProgramTree) → KeepsRules p → (fuel m : ℕ) (l : LambdaTree) → m < fuel → slice_get p.lambdas m ≡ Some l → (n : Line) → IsIn n (by_number p m) → IsIn n (order_of p)
+lambda_lines p r zero m l h e n i = absurd (omega arith)
+lambda_lines p r (suc fuel) m l h e n i =
+    ⊎_elim
+    (λ j. standing_all (is_assigned p) (by_number p) m n i p.forms j)
+    (λ j.
+    let o = around p.lambdas m j in
+    let g = greater_at p.lambdas 0 o.0 o.1 r.inner_greater o.2 m o.3 in
+    let eq = lines_at (is_assigned p) p.lambdas 0 o.0 o.0 o.1 (omega arith) r.inner_greater o.2 in
+    lambda_lines p r fuel o.0 o.1 (omega arith) o.2 n (subst (IsIn n) (sym eq) (standing_lines (is_assigned p) (by_number p) m n i (o.1).body o.3)))
+    (in-either m (inner_all p.forms) _ (in-tested (standing p) m (r.lambdas_at_least_once m (within p.lambdas m l e))))
+
+module _ (p : ProgramTree) (apart : IsApart (map (λ (l : Line). l.site) (order_of p))) where
+  abbrev Holds : List Line → Type 0
+  Holds ls = (n : Line) → IsIn n ls → IsIn n (order_of p)
+
+  own_found : (q : Place) (s : ℕ) (f : Form) → Holds (own_line (is_assigned p) q s f) → HasLine p s f
+  own_found q s f h e =
+      let n : Line = record { place = q; site = s; order = line_of (is_assigned p) (operands f) } in
+      let own : IsIn n (own_line (is_assigned p) q s f) = subst (λ b. IsIn n (cond b (n ∷ []) [])) (sym e) (inl refl) in
+      line_found (order_of p) n apart (h n own)
+
+  mutual
+    each_found : (e : Tree) → Holds (lines (is_assigned p) (by_number p) e) → Each (HasLine p) e
+    each_found (Node q s f) h =
+        (own_found q s f (λ n i. h n (in-left n _ _ i)), form_found f (λ n i. h n (in-right n (own_line (is_assigned p) q s f) _ i)))
+
+    form_found : (f : Form) → Holds (lines_form (is_assigned p) (by_number p) f) → EachForm (HasLine p) f
+    form_found (Quote c) h = tt
+    form_found (Local x) h = tt
+    form_found (Global v) h = tt
+    form_found (Lambda l) h = tt
+    form_found (If b c d) h =
+        (each_found b (λ n i. h n (in-left n _ _ i)),
+         each_found c (λ n i. h n (in-right n (lines (is_assigned p) (by_number p) b) _ (in-left n _ _ i))),
+         each_found d (λ n i. h n (in-right n (lines (is_assigned p) (by_number p) b) _ (in-right n (lines (is_assigned p) (by_number p) c) _ i))))
+    form_found (SetLocal x e) h = each_found e h
+    form_found (SetGlobal v e) h = each_found e h
+    form_found (DefGlobal v e) h = each_found e h
+    form_found (Let xs es e) h = (all_found es (λ n i. h n (in-left n _ _ i)), each_found e (λ n i. h n (in-right n (lines_all (is_assigned p) (by_number p) es) _ i)))
+    form_found (Letrec xs ls e) h = each_found e (λ n i. h n (in-right n (lines_of_lambdas (by_number p) ls) _ i))
+    form_found (Seq es) h = all_found es h
+    form_found (Call b es) h = (each_found b (λ n i. h n (in-left n _ _ i)), all_found es (λ n i. h n (in-right n (lines (is_assigned p) (by_number p) b) _ i)))
+    form_found (PrimUse q es) h = all_found es h
+    form_found (Apply b c) h = (each_found b (λ n i. h n (in-left n _ _ i)), each_found c (λ n i. h n (in-right n (lines (is_assigned p) (by_number p) b) _ i)))
+
+    all_found : (es : Trees) → Holds (lines_all (is_assigned p) (by_number p) es) → EachAll (HasLine p) es
+    all_found none h = tt
+    all_found (more e es) h = (each_found e (λ n i. h n (in-left n _ _ i)), all_found es (λ n i. h n (in-right n (lines (is_assigned p) (by_number p) e) _ i)))
+
+-- where the rules are kept, each node that has an order has its own line, in the forms
+pub forms-have-lines : (p : ProgramTree) → KeepsRules p → EachAll (HasLine p) p.forms
+forms-have-lines p r = all_found p r.sites_apart p.forms (λ n i. i)
+
+-- and in the body of each lambda expression
+pub bodies-have-lines : (p : ProgramTree) → KeepsRules p → (m : ℕ) (l : LambdaTree) → slice_get p.lambdas m ≡ Some l → Each (HasLine p) l.body
+bodies-have-lines p r m l e =
+    let eq = lines_at (is_assigned p) p.lambdas 0 m m l (omega arith) r.inner_greater e in
+    each_found p r.sites_apart l.body (λ n i. lambda_lines p r (suc m) m l (omega arith) e n (subst (IsIn n) (sym eq) i))

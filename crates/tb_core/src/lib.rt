@@ -12,7 +12,7 @@ pub use examples::{
 };
 pub use expr::{Core, Expr, ExprRow, LambdaId, LambdaIdRow, Site, VarId, VarRow};
 pub use laws::{
-    cut_keeps_listed, cut_to_fewer, emits_in_order, ends_last, space_counts_once,
+    cut_keeps_listed, cut_to_fewer, emits_in_order, ends_last, free_of_lambda, order_at_nodes, space_counts_once,
     space_is_within_made, stopped_stays, windows_are_finite,
 };
 pub use program::{Lambda, LambdaRow, Program};
