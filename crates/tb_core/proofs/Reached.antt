@@ -1,6 +1,6 @@
 -- Laws of the space of a configuration.
-use Rattle.std.proofs.Common.{◌≡◌, refl, sym, ap, ◌∙◌, ℕ, zero, suc, ◌+◌, ◌<◌, ◌≤◌, arith, List, [], ◌∷◌, length, Option, Some, None, slice_get}
-use Rattle.tb_semantics.specs.Graph.{Graph, IsIn, IsClosed, ListsReachable, below, sum_of, total}
+use Rattle.std.proofs.Common.{◌≡◌, refl, sym, ap, ℕ, zero, suc, ◌+◌, ◌<◌, ◌≤◌, arith, List, [], ◌∷◌, length, slice_get}
+use Rattle.tb_semantics.specs.Graph.{IsIn, IsClosed, ListsReachable, below, sum_of}
 use Rattle.tb_semantics.proofs.Reachable.{total-unique, total-within}
 use Rattle.tb_core.specs.Store.{Item}
 use Rattle.tb_core.specs.Reference.{Config}

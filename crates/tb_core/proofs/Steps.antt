@@ -1,15 +1,15 @@
 -- What a step of the reference machine emits, by cases of the step.
-use Rattle.std.proofs.Common.{◌≡◌, refl, sym, ap, ◌∙◌, subst, ℕ, zero, suc, ◌+◌, ◌≤◌, arith, Bool, true, false, cond, ◌==◌, List, [], ◌∷◌, ◌++◌, length, Option, Some, None, append-nil}
+use Rattle.std.proofs.Common.{◌≡◌, refl, sym, ℕ, zero, suc, arith, Bool, true, false, cond, List, [], ◌∷◌, ◌++◌, Option, Some, None, append-nil}
 use Rattle.tb_prim.specs.declared.place.Place.{Place}
 use Rattle.tb_prim.specs.declared.event.Event.{Event}
-use Rattle.tb_semantics.specs.Runs.{Appends, EmitsInOrder, Machine, run, after}
-use Rattle.tb_core.specs.Tree.{Tree, Node, Form, Quote, Local, Global, Lambda, If, SetLocal, SetGlobal, DefGlobal, Let, Letrec, Seq, Call, PrimUse, Apply, Trees, none, more, tree_at, LambdaTree, ProgramTree}
+use Rattle.tb_semantics.specs.Runs.{Appends, EmitsInOrder, run, after}
+use Rattle.tb_core.specs.Tree.{Tree, Node, Form, Quote, Local, Global, Lambda, If, SetLocal, SetGlobal, DefGlobal, Let, Letrec, Seq, Call, PrimUse, Apply, Trees, none, more, LambdaTree, ProgramTree}
 use Rattle.tb_core.specs.OperandOrder.{Line}
-use Rattle.tb_core.specs.Store.{Value, Fix, Char, Truth, Nil, Unspecified, Undefined, EndObject, At, Env, Item, Var, Pair, Vec, Str, Sym, Clo, lookup}
+use Rattle.tb_core.specs.Store.{Value, Undefined, At, Env, Item, Clo, lookup}
 use Rattle.tb_core.specs.Effects.{Effect, Gives, Makes, Changes, Puts, Takes, Peeks, Fails, Misused}
 use Rattle.tb_core.specs.Reference
 use Rattle.tb_core.specs.Reference.{Control, Eval, Bound, Val, Entering, Work, Sel, SetVar, SetGlo, Rest, Args, Top, Frame, Config, State, Running, Stopped, Lost, Context, Walked, Elements, TooLong, NoList, events_of, reference}
-use Rattle.tb_core.specs.Events.{is_last, GoOn, Ends, EndsLast}
+use Rattle.tb_core.specs.Events.{is_last, NoneLast, EndsLast}
 
 -- the state after a step from a configuration with these events
 pub data Stepped (es : List Event) : State → Type 0 where
@@ -168,11 +168,11 @@ in_order p order input (Running c es) = appends es _ (stepped (Reference.context
 in_order p order input (Stopped c es) = same es
 in_order p order input (Lost c es) = same es
 
-go_on : (es : List Event) (e : Event) → GoOn es → is_last e ≡ false → GoOn (es ++ e ∷ [])
+go_on : (es : List Event) (e : Event) → NoneLast es → is_last e ≡ false → NoneLast (es ++ e ∷ [])
 go_on [] e g h = (h, tt)
 go_on (d ∷ es) e g h = (g.0, go_on es e g.1 h)
 
-ends_last_step : (es : List Event) (s : State) → GoOn es → Stepped es s → EndsLast s
+ends_last_step : (es : List Event) (s : State) → NoneLast es → Stepped es s → EndsLast s
 ends_last_step es (Running c _) g quiet = g
 ends_last_step es (Running c _) g (emits e h) = go_on es e g h
 ends_last_step es (Stopped c _) g (stops e h) = record { front = es; last = e; whole = refl; goes_on = g; stops = h }

@@ -1,11 +1,10 @@
 -- Small programs written out as trees, and what it means that they are run. The node of a number stands in
 -- line 1, at the column of that number, so that a failure's place names its node.
-use Rattle.std.specs.Prelude.{◌≡◌, ℕ, zero, suc, ◌+◌, ℤ, pos, Bool, true, false, List, [], ◌∷◌, ◌++◌, Option, Some, None, slice_get}
+use Rattle.std.specs.Prelude.{◌≡◌, ℕ, zero, suc, pos, false, List, [], ◌∷◌, Option, Some, None, slice_get}
 use Rattle.tb_prim.specs.declared.place.Place.{Place}
 use Rattle.tb_prim.specs.declared.constant.Const.{Const}
 use Rattle.tb_prim.specs.declared.constant.Static.{Static}
 use Rattle.tb_prim.specs.declared.constant.GlobalName.{GlobalName}
-use Rattle.tb_prim.specs.declared.event.Cause.{Cause}
 use Rattle.tb_prim.specs.declared.event.Event.{Event}
 use Rattle.tb_prim.specs.declared.primitive.Primitive.{Primitive}
 use Rattle.tb_semantics.specs.Runs.{after}

@@ -1,6 +1,6 @@
 -- The order in which operands are evaluated (this project's own; R5RS 4.1.3 leaves it open): the complex
 -- operands first in written order, then the simple ones in written order.
-use Rattle.std.specs.Prelude.{◌≡◌, ℕ, zero, suc, ◌+◌, List, [], ◌∷◌, ◌++◌, not, Bool, true, false, cond, ◌==◌}
+use Rattle.std.specs.Prelude.{◌≡◌, ℕ, suc, List, [], ◌∷◌, ◌++◌, not, Bool, true, false, cond, ◌==◌}
 use Rattle.tb_prim.specs.declared.place.Place.{Place}
 use Rattle.tb_core.specs.Tree.{Tree, Node, Form, Quote, Local, Global, Lambda, If, SetLocal, SetGlobal, DefGlobal, Let, Letrec, Seq, Call, PrimUse, Apply, Trees, none, more, LambdaTree, ProgramTree}
 use Rattle.tb_core.specs.FreeVariables.{is_assigned}
@@ -109,3 +109,7 @@ order_of p = lines_all (is_assigned p) (lambdas_lines (is_assigned p) p.lambdas 
 abbrev pub line_at : List Line → ℕ → List ℕ
 line_at [] s = []
 line_at (l ∷ ls) s = cond (l.site == s) l.order (line_at ls s)
+
+-- a node that has an order goes by the line of its own operands
+abbrev pub HasLine : ProgramTree → ℕ → Form → Type 0
+HasLine p s f = has_order f ≡ true → line_at (order_of p) s ≡ line_of (is_assigned p) (operands f)

@@ -1,16 +1,16 @@
 -- The reference machine (after Clinger, "Proper Tail Recursion and Space Efficiency", 1998): what a program
 -- means. It has locations, environments by name and a frame for each subexpression, and its store only grows.
 -- No code runs it; contracts cite it.
-use Rattle.std.specs.Prelude.{ℕ, zero, suc, ◌+◌, ◌-◌, Bool, true, false, cond, ◌==◌, ◌&&◌, nat_le, nat_lt, List, [], ◌∷◌, ◌++◌, map, length, take, drop, replicate, Option, Some, None, slice_get, slice_set}
+use Rattle.std.specs.Prelude.{ℕ, zero, suc, ◌+◌, Bool, true, false, cond, ◌==◌, nat_le, List, [], ◌∷◌, ◌++◌, map, length, take, drop, replicate, Option, Some, None, slice_get, slice_set}
 use Rattle.tb_prim.specs.declared.place.Place.{Place}
 use Rattle.tb_prim.specs.declared.event.Cause.{Cause}
 use Rattle.tb_prim.specs.declared.event.Taken.{Taken}
 use Rattle.tb_prim.specs.declared.event.Event.{Event}
 use Rattle.tb_semantics.specs.Runs.{Machine}
-use Rattle.tb_core.specs.Tree.{Tree, Node, Form, Quote, Local, Global, Lambda, If, SetLocal, SetGlobal, DefGlobal, Let, Letrec, Seq, Call, PrimUse, Apply, Trees, none, more, count, tree_at, LambdaTree, ProgramTree, parameters}
+use Rattle.tb_core.specs.Tree.{Tree, Node, Form, Quote, Local, Global, Lambda, If, SetLocal, SetGlobal, DefGlobal, Let, Letrec, Seq, Call, PrimUse, Apply, Trees, none, more, tree_at, LambdaTree, ProgramTree}
 use Rattle.tb_core.specs.FreeVariables.{free, free_form, free_all, inner_free}
 use Rattle.tb_core.specs.OperandOrder.{operands, Line, line_at}
-use Rattle.tb_core.specs.Store.{Value, Fix, Char, Truth, Nil, Unspecified, Undefined, EndObject, At, Env, Empty, Bind, Item, Var, Pair, Clo, lookup, cut, bind_from, value_of, static_item}
+use Rattle.tb_core.specs.Store.{Value, Char, Nil, Unspecified, Undefined, EndObject, At, Env, Empty, Item, Var, Pair, Clo, lookup, cut, bind_from, value_of, static_item}
 use Rattle.tb_core.specs.Effects.{Effect, Gives, Makes, Changes, Puts, Takes, Peeks, Fails, Misused, is_false, effect_of}
 
 -- what is done next: an expression is evaluated, or one whose environment is not cut yet; a value is given

@@ -1,5 +1,5 @@
 -- The rules that every program keeps (this project's own).
-use Rattle.std.specs.Prelude.{◌≡◌, ℕ, zero, suc, ◌+◌, ◌^◌, ◌<◌, ◌≤◌, Bool, true, false, List, [], ◌∷◌, ◌++◌, length, map}
+use Rattle.std.specs.Prelude.{◌≡◌, ℕ, suc, ◌+◌, ◌^◌, ◌<◌, ◌≤◌, Bool, true, false, List, [], ◌∷◌, ◌++◌, length, map}
 use Rattle.tb_prim.specs.declared.constant.Const.{Const}
 use Rattle.tb_prim.specs.declared.constant.Static.{Static}
 use Rattle.tb_prim.specs.Primitives.{arity_of}

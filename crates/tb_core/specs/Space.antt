@@ -1,6 +1,6 @@
 -- The space of a configuration of the reference machine, in words (after Clinger 1998): its control, its
 -- frames, its globals, and each item that it can still reach, once.
-use Rattle.std.specs.Prelude.{ℕ, suc, ◌+◌, List, [], ◌∷◌, ◌++◌, length, Option, Some, None, slice_get}
+use Rattle.std.specs.Prelude.{ℕ, ◌+◌, List, [], ◌∷◌, ◌++◌, length, Option, Some, None, slice_get}
 use Rattle.tb_semantics.specs.Graph.{Graph, below, total}
 use Rattle.tb_core.specs.Tree.{ProgramTree}
 use Rattle.tb_core.specs.Store.{Value, At, Env, Empty, Bind, Item, Var, Pair, Vec, Str, Sym, Clo, env_size, flat_size}

@@ -1,5 +1,5 @@
 -- The store: locations map to items. A value takes one word.
-use Rattle.std.specs.Prelude.{◌≡◌, ℕ, ◌+◌, suc, ℤ, Bool, cond, ◌==◌, List, [], ◌∷◌, ◌++◌, length, map, Option, Some, None}
+use Rattle.std.specs.Prelude.{ℕ, ◌+◌, suc, ℤ, Bool, cond, ◌==◌, List, [], ◌∷◌, length, map, Option, Some, None}
 use Rattle.tb_prim.specs.declared.constant.Const.{Const}
 use Rattle.tb_prim.specs.declared.constant.Static.{Static}
 use Rattle.tb_core.specs.FreeVariables.{is_in}

@@ -1,5 +1,5 @@
 -- The width of bodies and forms, which bounds the code that is made of them.
-use Rattle.std.specs.Prelude.{ℕ, zero, suc, ◌+◌, ◌*◌, max, cond, ◌==◌, List, [], ◌∷◌, ◌++◌, length}
+use Rattle.std.specs.Prelude.{ℕ, suc, ◌+◌, ◌*◌, max, cond, ◌==◌, List, [], ◌∷◌, ◌++◌, length}
 use Rattle.tb_core.specs.Tree.{Tree, Node, Form, Quote, Local, Global, Lambda, If, SetLocal, SetGlobal, DefGlobal, Let, Letrec, Seq, Call, PrimUse, Apply, Trees, none, more, LambdaTree, ProgramTree, parameters}
 
 -- the nodes of an expression outside inner lambdas; a lambda expression counts one, and so does each lambda

@@ -3,9 +3,12 @@ ghost use Rattle.tb_prim.specs.declared.event.Cause.{Cause};
 ghost use Rattle.tb_prim.specs.declared.event.Event.{Event};
 ghost use Rattle.tb_prim.specs.declared.event.Taken.{Taken};
 ghost use Rattle.tb_prim.specs.declared.primitive.Primitive.{Primitive};
+ghost use Rattle.tb_semantics.specs.Runs.{after};
 ghost use Rattle.tb_core.specs.Effects.{Fails, Gives, effect_of};
 ghost use Rattle.tb_core.specs.Examples.{Emits, Stores, applied, assigned_capture, assigned_in_order, closure_of_one, complex_first, early_assignment, early_read, failure_after_output, letrec_closures, no_procedure, reads, rest_parameter, spot, tail_loop, wrong_count};
 ghost use Rattle.tb_core.specs.OperandOrder.{order_of};
+ghost use Rattle.tb_core.specs.Reference.{reference};
+ghost use Rattle.tb_core.specs.Space.{made_of, space_of};
 ghost use Rattle.tb_core.specs.Store.{Bind, Clo, Empty, Fix, Nil};
 
 /// The events of small programs, as the definitions of the reference machine compute them.
@@ -39,6 +42,16 @@ pub fn worked_closures()
     ensures one { Stores closure_of_one [] (Clo 0 (Bind 1 1 Empty)) }
     ensures first { Stores letrec_closures [] (Clo 0 (Bind 3 3 Empty)) }
     ensures second { Stores letrec_closures [] (Clo 1 (Bind 1 1 Empty)) }
+{}
+
+/// The space of a program that makes two variables and a procedure which keeps one of them: when the body of
+/// the `let` begins (a variable, the frame of the top level, and the item of the variable), when the procedure
+/// is made (its location, two frames, the items of the variable and of the procedure), and when it is entered.
+pub fn worked_spaces()
+    ensures at_body { space_of closure_of_one (after (reference closure_of_one (order_of closure_of_one) []) 6) ≡ 4 }
+    ensures at_closure { space_of closure_of_one (after (reference closure_of_one (order_of closure_of_one) []) 8) ≡ 7 }
+    ensures at_entry { space_of closure_of_one (after (reference closure_of_one (order_of closure_of_one) []) 9) ≡ 6 }
+    ensures made { made_of (after (reference closure_of_one (order_of closure_of_one) []) 9) ≡ 6 }
 {}
 
 /// The arithmetic of the primitives at the ends of the fixnums, and the signs of division.

@@ -1,14 +1,15 @@
-ghost use Rattle.std.specs.Prelude.{◌≡◌, ◌≤◌, ℕ, ◌+◌, List, Option, Some, None, cond, true, false};
+ghost use Rattle.std.specs.Prelude.{◌≡◌, ◌≤◌, ℕ, ◌+◌, List, Option, Some, None, true, false, slice_get};
 ghost use Rattle.tb_prim.specs.declared.event.Event.{Event};
 ghost use Rattle.tb_semantics.specs.Graph.{ListsReachable, sum_of};
 ghost use Rattle.tb_semantics.specs.Runs.{EmitsInOrder, IsPrefix, after};
-ghost use Rattle.tb_core.specs.Events.{EndsLast};
-ghost use Rattle.tb_core.specs.FreeVariables.{is_in};
-ghost use Rattle.tb_core.specs.OperandOrder.{Line};
-ghost use Rattle.tb_core.specs.Reference.{Config, Stopped, events_of, reference};
+ghost use Rattle.tb_core.specs.Events.{EndsLast, ComesToCall};
+ghost use Rattle.tb_core.specs.FreeVariables.{inner_free, is_in, lambda_free};
+ghost use Rattle.tb_core.specs.OperandOrder.{HasLine, Line};
+ghost use Rattle.tb_core.specs.Reference.{Config, State, Stopped, events_of, reference};
+ghost use Rattle.tb_core.specs.Rules.{Each, EachAll, KeepsRules};
 ghost use Rattle.tb_core.specs.Space.{made, own_words, size_at, space, store_graph};
 ghost use Rattle.tb_core.specs.Store.{Env, cut, lookup};
-ghost use Rattle.tb_core.specs.Tree.{ProgramTree};
+ghost use Rattle.tb_core.specs.Tree.{LambdaTree, ProgramTree};
 
 /// A run that has stopped stays as it is.
 pub fn stopped_stays()
@@ -24,6 +25,12 @@ pub fn emits_in_order()
 /// A run stops with End or Fail, and emits neither before that.
 pub fn ends_last()
     ensures law { (p : ProgramTree) (order : List Line) (input : List ℕ) (n : ℕ) → EndsLast (after (reference p order input) n) }
+{}
+
+/// Between two calls there are finitely many steps: from each state a run comes to a further call, or to a
+/// state without a next step.
+pub fn windows_are_finite()
+    ensures law { (p : ProgramTree) (order : List Line) (input : List ℕ) (s : State) → ComesToCall (reference p order input).step s }
 {}
 
 /// An environment that is cut has each variable of the list where it was, and no other.
@@ -47,4 +54,16 @@ pub fn space_counts_once()
 /// The space of a configuration is at most its own words and all that was made.
 pub fn space_is_within_made()
     ensures law { (statics : ℕ) (c : Config) → space statics c ≤ own_words c + made c.store }
+{}
+
+/// The free variables of a lambda expression of a program are those of its body but its parameters.
+pub fn free_of_lambda()
+    ensures law { (p : ProgramTree) (n : ℕ) (l : LambdaTree) → KeepsRules p → slice_get p.lambdas n ≡ Some l → inner_free p n ≡ lambda_free (inner_free p) l }
+{}
+
+/// Each node of a program that has an order goes by the line of its own operands, in the forms and in the
+/// bodies of lambda expressions.
+pub fn order_at_nodes()
+    ensures forms { (p : ProgramTree) → KeepsRules p → EachAll (HasLine p) p.forms }
+    ensures bodies { (p : ProgramTree) (n : ℕ) (l : LambdaTree) → KeepsRules p → slice_get p.lambdas n ≡ Some l → Each (HasLine p) l.body }
 {}

@@ -5,8 +5,15 @@ mod examples;
 mod expr;
 mod laws;
 mod program;
+mod rules;
 
-pub use examples::{worked_closures, worked_orders, worked_primitives, worked_programs};
+pub use examples::{
+    worked_closures, worked_orders, worked_primitives, worked_programs, worked_spaces,
+};
 pub use expr::{Core, Expr, ExprRow, LambdaId, LambdaIdRow, Site, VarId, VarRow};
-pub use laws::{cut_keeps_listed, cut_to_fewer, emits_in_order, ends_last, space_counts_once, space_is_within_made, stopped_stays};
+pub use laws::{
+    cut_keeps_listed, cut_to_fewer, emits_in_order, ends_last, free_of_lambda, order_at_nodes, space_counts_once,
+    space_is_within_made, stopped_stays, windows_are_finite,
+};
 pub use program::{Lambda, LambdaRow, Program};
+pub use rules::{program_keeps_rules, worked_rules};

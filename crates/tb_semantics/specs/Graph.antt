@@ -1,5 +1,5 @@
 -- Graphs on numbers, what can be reached in them, and the size of all that.
-use Rattle.std.specs.Prelude.{◌≡◌, ℕ, zero, suc, ◌+◌, ◌<◌, ◌≤◌, Bool, true, false, cond, ◌==◌, ◌||◌, ◌&&◌, ◌⊎◌, List, [], ◌∷◌}
+use Rattle.std.specs.Prelude.{◌≡◌, ℕ, zero, suc, ◌+◌, ◌<◌, Bool, false, cond, ◌==◌, ◌||◌, ◌&&◌, ◌⊎◌, List, [], ◌∷◌}
 
 -- an element of a list
 abbrev pub IsIn : {X : Type 0} → X → List X → Type 0

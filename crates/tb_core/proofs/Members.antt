@@ -1,0 +1,44 @@
+-- Elements of lists that are joined, and tests of them.
+use Rattle.std.proofs.Common.{◌≡◌, refl, sym, ap, ◌∙◌, subst, ℕ, zero, suc, ◌+◌, ◌<◌, ◌⊎◌, inl, inr, ⊎_elim, arith, Bool, true, false, cond, not, ◌==◌, ◌||◌, List, [], ◌∷◌, ◌++◌, filter, length, Option, Some, None, slice_get, eqb-true, eq-eqb}
+use Rattle.std.proofs.lemmas.Bool.{or_cases}
+use Rattle.tb_semantics.specs.Graph.{IsIn}
+use Rattle.tb_core.specs.FreeVariables.{is_in, without}
+
+pub in-left : {X : Type 0} (x : X) (xs ys : List X) → IsIn x xs → IsIn x (xs ++ ys)
+in-left x [] ys i = absurd i
+in-left x (z ∷ xs) ys (inl e) = inl e
+in-left x (z ∷ xs) ys (inr i) = inr (in-left x xs ys i)
+
+pub in-right : {X : Type 0} (x : X) (xs ys : List X) → IsIn x ys → IsIn x (xs ++ ys)
+in-right x [] ys i = i
+in-right x (z ∷ xs) ys i = inr (in-right x xs ys i)
+
+pub in-either : {X : Type 0} (x : X) (xs ys : List X) → IsIn x (xs ++ ys) → IsIn x xs ⊎ IsIn x ys
+in-either x [] ys i = inr i
+in-either x (z ∷ xs) ys (inl e) = inl (inl e)
+in-either x (z ∷ xs) ys (inr i) = ⊎_elim (λ j. inl (inr j)) inr (in-either x xs ys i)
+
+pub in-tested : (xs : List ℕ) (y : ℕ) → is_in xs y ≡ true → IsIn y xs
+in-tested [] y e = cc
+in-tested (x ∷ xs) y e = ⊎_elim (λ h. inl (eqb-true x y h)) (λ h. inr (in-tested xs y h)) (or_cases (x == y) (is_in xs y) e)
+
+or_right : (a b : Bool) → b ≡ true → (a || b) ≡ true
+or_right true b e = refl
+or_right false b e = e
+
+pub tested-in : (xs : List ℕ) (y : ℕ) → IsIn y xs → is_in xs y ≡ true
+tested-in [] y i = absurd i
+tested-in (x ∷ xs) y (inl e) = ap (λ b. b || is_in xs y) (eq-eqb x y e)
+tested-in (x ∷ xs) y (inr i) = or_right (x == y) (is_in xs y) (tested-in xs y i)
+
+pub in-without : (xs ys : List ℕ) (y : ℕ) → IsIn y ys → is_in xs y ≡ false → IsIn y (without xs ys)
+in-without xs [] y i h = absurd i
+in-without xs (z ∷ ys) y (inl e) h =
+    let k : is_in xs z ≡ false = ap (is_in xs) e ∙ h in
+    subst (λ b. IsIn y (cond (not b) (z ∷ without xs ys) (without xs ys))) (sym k) (inl e)
+in-without xs (z ∷ ys) y (inr i) h =
+    let j = in-without xs ys y i h in
+    elim (is_in xs z) as (λ b. IsIn y (cond (not b) (z ∷ without xs ys) (without xs ys))) [ true ↦ j | false ↦ inr j ]
+
+pub append-same : {X : Type 0} (xs ys vs ws : List X) → xs ≡ vs → ys ≡ ws → xs ++ ys ≡ vs ++ ws
+append-same xs ys vs ws p q = ap (λ zs. zs ++ ys) p ∙ ap (λ zs. vs ++ zs) q
