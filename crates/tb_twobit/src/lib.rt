@@ -2,6 +2,7 @@
 #![tactic(auto)]
 
 mod generator;
+mod status;
 mod words;
 
 pub use words::{Command, asked_for};
