@@ -1,5 +1,5 @@
 -- Texts that are put one after another.
-use Rattle.std.proofs.Common.{◌≡◌, ℕ, zero, suc, ◌+◌, ◌<◌, ◌≤◌, List, [], ◌∷◌, ◌++◌, length, map, take, drop, get_or, Option, Some, None, ◌⊎◌, inl, inr, refl, sym, ap, ◌∙◌, subst, append_assoc, append-nil, length-append, add-one, arith}
+use Rattle.std.proofs.Common.{◌≡◌, ℕ, zero, suc, ◌+◌, ◌<◌, List, [], ◌∷◌, ◌++◌, length, map, take, get_or, Option, Some, None, ◌⊎◌, inl, inr, refl, sym, ap, ◌∙◌, subst, append_assoc, append-nil, length-append, add-one, arith}
 use Rattle.std.specs.Prelude.{IfSome}
 use Rattle.std.proofs.lemmas.List.{take-append-le}
 use Rattle.std.proofs.Math.Seq.{take-append-add}
@@ -41,9 +41,9 @@ some_put : (held : List ℕ) (last : Option (List ℕ)) (front own all : List �
 some_put held last front own all n s p =
     let fewer : n < length own = p.fewer in
     let size : length all ≡ length front + (length own + length s.rest) =
-      ap length s.whole ∙ length-append front (own ++ s.rest) ∙ ap (λ k. length front + k) (length-append own s.rest) in
+    ap length s.whole ∙ length-append front (own ++ s.rest) ∙ ap (λ k. length front + k) (length-append own s.rest) in
     let same : take (length front + n) all ≡ front ++ take n own =
-      ap (take (length front + n)) s.whole ∙ take-append-add front (own ++ s.rest) n ∙ ap (λ ys. front ++ ys) (take-append-le n own s.rest (omega arith)) in
+    ap (take (length front + n)) s.whole ∙ take-append-add front (own ++ s.rest) n ∙ ap (λ ys. front ++ ys) (take-append-le n own s.rest (omega arith)) in
     record {
       fewer = omega arith;
       front = p.front ∙ ap Some (append_assoc held front (take n own) ∙ ap (λ ys. held ++ ys) (sym same));
@@ -64,3 +64,8 @@ said s line (Err e) p h = said_some s.before line p h.failed
         IfSome before (λ held. s.now ≡ Some (held ++ line)) ⊎ ((n : ℕ) × IfSome before (λ held. s.now ≡ Some (held ++ take n line)) × Rose s.faults s.faults_now)
     said_some None line p h = inl tt
     said_some (Some held) line p h = inr (p.0, p.1.front, h)
+
+-- a sink that was not touched was given nothing
+pub gained_nothing : (held : Option (List ℕ)) → IfSome held (λ bytes. held ≡ Some (bytes ++ []))
+gained_nothing None = tt
+gained_nothing (Some bytes) = ap Some (sym (append-nil bytes))

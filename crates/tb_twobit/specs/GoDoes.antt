@@ -1,10 +1,10 @@
 -- What the command `go` does: its status, the bytes that it adds to `out` and the lines on `diag`.
-use Rattle.std.specs.Prelude.{◌≡◌, ℕ, ◌+◌, ◌≤◌, ◌<◌, ◌⊎◌, List, [], ◌∷◌, ◌++◌, length, take, Option, Some, None, IfSome}
+use Rattle.std.specs.Prelude.{◌≡◌, ℕ, ◌≤◌, ◌<◌, ◌⊎◌, List, [], ◌++◌, length, take, Option, Some, IfSome}
 use Rattle.tb_prim.specs.declared.place.Place.{Place}
 use Rattle.tb_prim.specs.declared.event.Cause.{Cause}
 use Rattle.tb_prim.specs.declared.event.Event.{Event}
 use Rattle.tb_prim.specs.declared.event.Stop.{Stop}
-use Rattle.tb_base.specs.Outside.{Rose}
+use Rattle.tb_base.specs.Outside.{Rose, IsLonger}
 use Rattle.tb_semantics.specs.Runs.{after}
 use Rattle.tb_core.specs.Tree.{Trees}
 use Rattle.tb_core.specs.OperandOrder.{order_of}
@@ -64,20 +64,36 @@ pub record Runs (go : Go) (forms : Trees) (out diag : Sunk) (status : ℕ) : Typ
   pub put : Gained out (puts (mac.events_of (after (mac_machine code places go.heap) taken)))
   pub ends : RunEnds (after (mac_machine code places go.heap) taken) taken go.steps out diag status
 
--- what `go` does with a file that has these bytes, or that is missing
-pub data GoDoes (go : Go) (file : Option (List ℕ)) (loads loads_now : ℕ) (out diag : Sunk) : ℕ → Type 0 where
-  -- status 1 where the text is outside the grammar
-  refused : (bytes : List ℕ) → file ≡ Some bytes → length bytes ≤ source_limit → ((forms : Trees) → IsAccepted bytes forms → ⊥) →
-      Gained out [] → Said diag refused_line → GoDoes go file loads loads_now out diag 1
-  -- status 3 only where the count of loads of the name rose
-  not_loaded : Rose loads loads_now → Gained out [] → Gained diag [] → GoDoes go file loads loads_now out diag 3
-  -- status 5 is want of memory, while reading, compiling or loading
-  no_memory : Gained out [] → Gained diag [] → GoDoes go file loads loads_now out diag 5
-  -- status 11 where the file is too long
-  too_long : (bytes : List ℕ) → file ≡ Some bytes → source_limit < length bytes → Gained out [] → Gained diag [] → GoDoes go file loads loads_now out diag 11
-  -- the others come from a run
-  ran : {status : ℕ} (bytes : List ℕ) (forms : Trees) → file ≡ Some bytes → length bytes ≤ source_limit → IsAccepted bytes forms → Runs go forms out diag status → GoDoes go file loads loads_now out diag status
+-- what code that keeps the reference machine of these forms does: it runs, or there is no memory for its heap
+pub data CodeDoes (go : Go) (forms : Trees) (out diag : Sunk) : ℕ → Type 0 where
+  no_heap : Gained out [] → Gained diag [] → CodeDoes go forms out diag 5
+  code_ran : {status : ℕ} → Runs go forms out diag status → CodeDoes go forms out diag status
 
--- the file that a store holds under a name, where the store tells it
-abbrev pub IsFile : Option (List ℕ → Option (List ℕ)) → List ℕ → Option (List ℕ) → Type 0
-IsFile files name file = IfSome files (λ f. f name ≡ file)
+-- a store holds these bytes under a name, where it tells what it holds
+abbrev pub HasFile : Option (List ℕ → Option (List ℕ)) → List ℕ → List ℕ → Type 0
+HasFile files name bytes = IfSome files (λ f. f name ≡ Some bytes)
+
+-- the bytes that it holds under a name are too many
+abbrev pub HasLongFile : Option (List ℕ → Option (List ℕ)) → List ℕ → Type 0
+HasLongFile files name = IfSome files (λ f. IsLonger (f name) source_limit)
+
+-- what a text does, whichever the store: it is refused, or run, or there is no memory
+pub data TextDoes (go : Go) (bytes : List ℕ) (out diag : Sunk) : ℕ → Type 0 where
+  text_refused : ((forms : Trees) → IsAccepted bytes forms → ⊥) → Gained out [] → Said diag refused_line → TextDoes go bytes out diag 1
+  text_no_memory : Gained out [] → Gained diag [] → TextDoes go bytes out diag 5
+  text_ran : {status : ℕ} (forms : Trees) → IsAccepted bytes forms → Runs go forms out diag status → TextDoes go bytes out diag status
+
+-- what `go` does, with the files of the store and its counts of failed loads of the source file
+pub data GoDoes (go : Go) (files : Option (List ℕ → Option (List ℕ))) (loads loads_now : ℕ) (out diag : Sunk) : ℕ → Type 0 where
+  -- status 3 only where the count of loads of the name rose
+  not_loaded : Rose loads loads_now → Gained out [] → Gained diag [] → GoDoes go files loads loads_now out diag 3
+  -- status 5 is want of memory, while reading, compiling or loading
+  no_memory : Gained out [] → Gained diag [] → GoDoes go files loads loads_now out diag 5
+  -- status 11 where the file is longer than the limit
+  too_long : HasLongFile files go.source → Gained out [] → Gained diag [] → GoDoes go files loads loads_now out diag 11
+  -- status 1 where the text is outside the grammar
+  refused : (bytes : List ℕ) → HasFile files go.source bytes → length bytes ≤ source_limit → ((forms : Trees) → IsAccepted bytes forms → ⊥) →
+      Gained out [] → Said diag refused_line → GoDoes go files loads loads_now out diag 1
+  -- the others come from a run of the file's program
+  ran : {status : ℕ} (bytes : List ℕ) (forms : Trees) → HasFile files go.source bytes → length bytes ≤ source_limit → IsAccepted bytes forms →
+      Runs go forms out diag status → GoDoes go files loads loads_now out diag status

@@ -7,3 +7,5 @@ pub mod SmallGrammar
 pub mod Bits
 pub mod Statuses
 pub mod GoDoes
+pub mod Finish
+pub mod SmallReading

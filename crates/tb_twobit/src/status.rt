@@ -24,3 +24,15 @@ pub enum Status {
     /// The file is too long.
     TooLong = 11,
 }
+
+impl Status {
+    ghost use Rattle.std.specs.Prelude.{◌≡◌};
+    ghost use Rattle.tb_twobit.specs.Statuses as statuses;
+
+    /// The number of the status, 0 to 11.
+    pub fn number(self) -> u8
+        ensures { result ≡ statuses.number self }
+    {
+        self as u8
+    }
+}

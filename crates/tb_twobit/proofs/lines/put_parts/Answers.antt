@@ -1,5 +1,4 @@
-use Rattle.std.proofs.Common.{◌≡◌, ◌≤◌, ◌++◌, take, map, get_or, arith}
-use Rattle.tb_twobit.specs.Statuses.{joined}
+use Rattle.std.proofs.Common.{arith}
 use Rattle.tb_twobit.proofs.Parts.{joined-split, joined-take_more, put_more, put_some}
 use Rattle.tb_twobit.proofs.lines.put_parts.Goals as goal
 
