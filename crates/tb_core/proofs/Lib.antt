@@ -6,3 +6,5 @@ pub mod Windows
 pub mod Members
 pub mod Numbers
 pub mod Stores
+pub mod Lines
+pub mod Fits
