@@ -8,3 +8,4 @@ pub mod Numbers
 pub mod Stores
 pub mod Lines
 pub mod Fits
+pub mod Kept

@@ -42,3 +42,12 @@ in-without xs (z ∷ ys) y (inr i) h =
 
 pub append-same : {X : Type 0} (xs ys vs ws : List X) → xs ≡ vs → ys ≡ ws → xs ++ ys ≡ vs ++ ws
 append-same xs ys vs ws p q = ap (λ zs. zs ++ ys) p ∙ ap (λ zs. vs ++ zs) q
+
+pub without-sub : (xs ys : List ℕ) (y : ℕ) → IsIn y (without xs ys) → IsIn y ys
+without-sub xs [] y i = absurd i
+without-sub xs (z ∷ ys) y i =
+    (elim (is_in xs z) as (λ b. IsIn y (cond (not b) (z ∷ without xs ys) (without xs ys)) → IsIn y (z ∷ ys)) [
+      | true ↦ λ j. inr (without-sub xs ys y j)
+      | false ↦ λ j. ⊎_elim inl (λ k. inr (without-sub xs ys y k)) j
+    ])
+    i
