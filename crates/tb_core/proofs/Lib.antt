@@ -9,3 +9,4 @@ pub mod Stores
 pub mod Lines
 pub mod Fits
 pub mod Kept
+pub mod NeverLost

@@ -1,0 +1,178 @@
+-- A run of a program that keeps its rules, in its own order, always has a next step until it stops; and what
+-- was made only grows.
+use Rattle.std.proofs.Common.{◌≡◌, refl, sym, ap, ◌∙◌, subst, ℕ, zero, suc, ◌+◌, ◌<◌, ◌≤◌, ◌⊎◌, inl, inr, ⊎_elim, arith, Bool, true, false, cond, ◌==◌, nat_le, List, [], ◌∷◌, ◌++◌, length, take, drop, map, replicate, Option, Some, None, slice_get, slice_set, length-append, length-set, append-nil}
+use Rattle.std.proofs.lemmas.Bool.{eqb-true, leb-true}
+use Rattle.std.proofs.lemmas.List.{length-replicate}
+use Rattle.std.proofs.lemmas.Option.{same_Some}
+use Rattle.tb_prim.specs.declared.place.Place.{Place}
+use Rattle.tb_prim.specs.declared.constant.Static.{Static}
+use Rattle.tb_prim.specs.declared.event.Event.{Event}
+use Rattle.tb_prim.specs.Primitives.{arity_of}
+use Rattle.tb_semantics.specs.Graph.{IsIn}
+use Rattle.tb_semantics.specs.Runs.{run, after}
+use Rattle.tb_semantics.proofs.RunLaws.{run-add}
+use Rattle.tb_core.specs.Tree.{Tree, Node, Form, Quote, Local, Global, Lambda, If, SetLocal, SetGlobal, DefGlobal, Let, Letrec, Seq, Call, PrimUse, Apply, Trees, none, more, count, tree_at, LambdaTree, ProgramTree, parameters, option_list}
+use Rattle.tb_core.specs.FreeVariables.{is_in, without, of_lambdas, free, free_form, free_all, lambda_free, inner_free, is_assigned}
+use Rattle.tb_core.specs.OperandOrder.{operands, has_order, line_of, line_at, order_of}
+use Rattle.tb_core.specs.Store.{Value, Fix, Char, Truth, Nil, Unspecified, Undefined, EndObject, At, Env, Empty, Item, Var, Pair, Vec, Str, Sym, Clo, lookup, cut, bind_from, static_item}
+use Rattle.tb_core.specs.Effects.{Effect, Gives, Makes, Changes, Puts, Takes, Peeks, Fails, Misused, is_false, effect_of}
+use Rattle.tb_core.specs.Space.{made, made_of}
+use Rattle.tb_core.specs.Rules.{Every, Each, EachForm, EachAll, NodeKeeps, LambdaKeeps, KeepsRules}
+use Rattle.tb_core.specs.Events.{IsNotLost}
+use Rattle.tb_core.specs.Reference
+use Rattle.tb_core.specs.Reference.{Control, Eval, Bound, Val, Entering, Work, Sel, SetVar, SetGlo, Rest, Args, Top, Frame, Config, State, Running, Stopped, Lost, Walked, Elements, TooLong, NoList, free_of_numbers, free_of_body, arranged, vars, located, closures, list_items, list_value, takes, reference}
+use Rattle.tb_core.proofs.Members.{in-left, in-right, in-either, in-without}
+use Rattle.tb_core.proofs.Numbers.{free-of-lambda, forms-have-lines, bodies-have-lines}
+use Rattle.tb_core.proofs.Lines.{line-within, line-all, line-length, tree-within, arranged-length}
+use Rattle.tb_core.proofs.Fits.{Fit, gives, makes, changes, puts, takes as takes_input, peeks, fails, fits}
+use Rattle.tb_core.proofs.Stores
+use Rattle.tb_core.proofs.Stores.{VarAt, Found, Covers, Extends, covers-cut, covers-own, extends_refl, extends-append, extends-set, get-right, covers-bound, vars-at, vars-no-closure, located-at, located-no-closure, pairs-no-closure, SameKind, var_kind}
+use Rattle.tb_core.proofs.Kept.{NodeOk, both, both_all, each-at, operand-each, let_free, let-free-body, free-at, covers-operands, own_context, CloOk, StoreOk, ControlOk, ArgsOk, WorkOk, FramesOk, IsAbove, EndsTop, above, Base, After, store-append, store-set, go-ok, go-with-ok, base-push, base-mark}
+
+got : {X : Type 0} (xs : List X) (n : ℕ) → n < length xs → (x : X) × (slice_get xs n ≡ Some x)
+got [] n h = absurd (omega arith)
+got (x ∷ xs) zero h = (x, refl)
+got (x ∷ xs) (suc n) h = got xs n (omega arith)
+
+every_at : {X : Type 0} (P : X → Type 0) (xs : List X) (n : ℕ) (x : X) → Every P xs → slice_get xs n ≡ Some x → P x
+every_at P [] n x h e = cc
+every_at P (y ∷ xs) zero x h e = subst P (same_Some y x e) h.0
+every_at P (y ∷ xs) (suc n) x h e = every_at P xs n x h.1 e
+
+every_in : {X : Type 0} (P : X → Type 0) (xs : List X) (x : X) → Every P xs → IsIn x xs → P x
+every_in P [] x h i = absurd i
+every_in P (y ∷ xs) x h (inl e) = subst P e h.0
+every_in P (y ∷ xs) x h (inr i) = every_in P xs x h.1 i
+
+in_lambdas : (inner : ℕ → List ℕ) (ls : List ℕ) (l y : ℕ) → IsIn l ls → IsIn y (inner l) → IsIn y (of_lambdas inner ls)
+in_lambdas inner [] l y i j = absurd i
+in_lambdas inner (k ∷ ls) l y (inl e) j = in-left y (inner k) _ (subst (λ v. IsIn y (inner v)) (sym e) j)
+in_lambdas inner (k ∷ ls) l y (inr i) j = in-right y (inner k) _ (in_lambdas inner ls l y i j)
+
+in_closures : (p : ProgramTree) (ls : List ℕ) (r : Env) (m : ℕ) (q : Env) → IsIn (Clo m q) (closures (own_context p) ls r) → IsIn m ls × (cut (inner_free p m) r ≡ q)
+in_closures p [] r m q i = absurd i
+in_closures p (l ∷ ls) r m q (inl e) = let s : l ≡ m = cc in (inl s, let t : cut (inner_free p l) r ≡ q = cc in ap (λ v. cut (inner_free p v) r) (sym s) ∙ t)
+in_closures p (l ∷ ls) r m q (inr i) = let h = in_closures p ls r m q i in (inr h.0, h.1)
+
+drop_at : (k : ℕ) (xs : List ℕ) (n : ℕ) (ns : List ℕ) → n ∷ ns ≡ drop k xs → (drop (suc k) xs ≡ ns) × (k < length xs) × IsIn n xs
+drop_at zero [] n ns h = cc
+drop_at zero (x ∷ xs) n ns h = (cc, omega arith, inl cc)
+drop_at (suc k) [] n ns h = cc
+drop_at (suc k) (x ∷ xs) n ns h = let r = drop_at k xs n ns h in (r.0, omega (arith, r.1), inr r.2)
+
+drop_none : (k : ℕ) (xs : List ℕ) → [] ≡ drop k xs → length xs ≤ k
+drop_none k [] h = omega arith
+drop_none zero (x ∷ xs) h = cc
+drop_none (suc k) (x ∷ xs) h = let r = drop_none k xs h in omega arith
+
+take_length : (k : ℕ) (vs : List Value) → k ≤ length vs → length (take k vs) ≡ k
+take_length zero vs h = refl
+take_length (suc k) [] h = absurd (omega arith)
+take_length (suc k) (v ∷ vs) h = ap suc (take_length k vs (omega arith))
+
+module _ (p : ProgramTree) (rules : KeepsRules p) where
+  abbrev I : ℕ → List ℕ
+  I = inner_free p
+
+  -- the body of a lambda expression
+  body_ok : (m : ℕ) (l : LambdaTree) → slice_get p.lambdas m ≡ Some l → Each (NodeOk p) l.body
+  body_ok m l e = both (NodeKeeps p) (λ s f. _) l.body (every_at (LambdaKeeps p) p.lambdas m l rules.lambdas e).nodes (bodies-have-lines p rules m l e)
+
+  forms_ok : EachAll (NodeOk p) p.forms
+  forms_ok = both_all (NodeKeeps p) (λ s f. _) p.forms rules.forms (forms-have-lines p rules)
+
+  read_value : (c : Config) (q : Place) (v : Value) (es : List Event) → Base p c c.frames → After p (made c.store) (Reference.read_value c q (Some v) es)
+  read_value c q Undefined es b = omega arith
+  read_value c q (Fix n) es b = go-ok p c _ _ es b tt
+  read_value c q (Char n) es b = go-ok p c _ _ es b tt
+  read_value c q (Truth n) es b = go-ok p c _ _ es b tt
+  read_value c q Nil es b = go-ok p c _ _ es b tt
+  read_value c q Unspecified es b = go-ok p c _ _ es b tt
+  read_value c q EndObject es b = go-ok p c _ _ es b tt
+  read_value c q (At l) es b = go-ok p c _ _ es b tt
+
+  read_some : (c : Config) (q : Place) (o : Option Value) (v : Value) (es : List Event) → o ≡ Some v → Base p c c.frames → After p (made c.store) (Reference.read_value c q o es)
+  read_some c q o v es e b = subst (λ w. After p (made c.store) (Reference.read_value c q w es)) (sym e) (read_value c q v es b)
+
+  -- an expression whose environment is cut to it
+  eval_ok : (c : Config) (e : Tree) (r : Env) (fs : List Frame) (es : List Event) → Base p c fs → Each (NodeOk p) e → Covers c.store (free I e) r → After p (made c.store) (Reference.go c (Reference.eval (own_context p) e r) fs es)
+  eval_ok c e r fs es b n h = go-ok p c _ fs es b (n, covers-own c.store (free I e) r h)
+
+  sequence : (c : Config) (ds : Trees) (r : Env) (fs : List Frame) (es : List Event) → Base p c fs → EachAll (NodeOk p) ds → 1 ≤ count ds → Covers c.store (free_all I ds) r → After p (made c.store) (Reference.sequence (own_context p) c ds r fs es)
+  sequence c none r fs es b n l h = absurd (omega arith)
+  sequence c (more e none) r fs es b n l h = eval_ok c e r fs es b n.0 (λ y i. h y (in-left y (free I e) _ i))
+  sequence c (more e (more d ds)) r fs es b n l h =
+      eval_ok c e r _ es
+      (base-push p c _ fs b (n.1, omega arith, covers-own c.store (free_all I (more d ds)) r (λ y i. h y (in-right y (free I e) _ i))))
+      n.0 (λ y i. h y (in-left y (free I e) _ i))
+
+  enter_at : (c : Config) (q : Place) (l : ℕ) (o : Option Item) (vs : List Value) (fs : List Frame) (es : List Event) → Base p c fs → slice_get c.store l ≡ o → After p (made c.store) (Reference.enter_at c q l o vs fs es)
+  enter_at c q l (Some (Clo m r)) vs fs es b e = go-ok p c _ _ es (base-mark p c fs b) (m, r, e)
+  enter_at c q l _ vs fs es b e = omega arith
+
+  enter : (c : Config) (q : Place) (v : Value) (vs : List Value) (fs : List Frame) (es : List Event) → Base p c fs → After p (made c.store) (Reference.enter c q v vs fs es)
+  enter c q (At l) vs fs es b = enter_at c q l _ vs fs es b refl
+  enter c q _ vs fs es b = omega arith
+
+  apply_to : (c : Config) (q : Place) (l m : ℕ) (r : Env) (w : Walked) (fs : List Frame) (es : List Event) → Base p c fs → slice_get c.store l ≡ Some (Clo m r) → After p (made c.store) (Reference.apply_to c q l m w fs es)
+  apply_to c q l m r (Elements vs) fs es b e = go-ok p c _ _ es (base-mark p c fs b) (m, r, e)
+  apply_to c q l m r TooLong fs es b e = omega arith
+  apply_to c q l m r NoList fs es b e = omega arith
+
+  apply_at : (c : Config) (q : Place) (l : ℕ) (o : Option Item) (v : Value) (fs : List Frame) (es : List Event) → Base p c fs → slice_get c.store l ≡ o → After p (made c.store) (Reference.apply_at c q l o v fs es)
+  apply_at c q l (Some (Clo m r)) v fs es b e = apply_to c q l m r _ fs es b e
+  apply_at c q l _ v fs es b e = omega arith
+
+  apply : (c : Config) (q : Place) (v w : Value) (fs : List Frame) (es : List Event) → Base p c fs → After p (made c.store) (Reference.apply c q v w fs es)
+  apply c q (At l) w fs es b = apply_at c q l _ w fs es b refl
+  apply c q _ w fs es b = omega arith
+
+  -- the same where the input alone is another
+  input_ok : (c : Config) (bs : List ℕ) (met : Bool) (v : Value) (fs : List Frame) (es : List Event) → Base p c fs → After p (made c.store) (Reference.go (record c { input = bs; met_end = met }) (Val v) fs es)
+  input_ok c bs met v fs es b = (record { store = b.store; globals = b.globals; frames = b.frames; bottom = b.bottom }, tt, omega arith)
+
+  take_input : (c : Config) (met : Bool) (bs : List ℕ) (fs : List Frame) (es : List Event) → Base p c fs → After p (made c.store) (Reference.take_input c met bs fs es)
+  take_input c true bs fs es b = go-ok p c _ fs es b tt
+  take_input c false [] fs es b = input_ok c c.input true _ fs es b
+  take_input c false (x ∷ bs) fs es b = input_ok c bs c.met_end _ fs es b
+
+  peek_input : (c : Config) (met : Bool) (bs : List ℕ) (fs : List Frame) (es : List Event) → Base p c fs → After p (made c.store) (Reference.peek_input c met bs fs es)
+  peek_input c true bs fs es b = go-ok p c _ fs es b tt
+  peek_input c false [] fs es b = input_ok c c.input true _ fs es b
+  peek_input c false (x ∷ bs) fs es b = go-ok p c _ fs es b tt
+
+  one_item : (m : ℕ) (r : Env) (i : Item) → (i ≡ Clo m r → ⊥) → IsIn (Clo m r) (i ∷ []) → ⊥
+  one_item m r i ne (inl e) = ne e
+  one_item m r i ne (inr j) = absurd j
+
+  perform : (c : Config) (q : Place) (f : Effect) (fs : List Frame) (es : List Event) → Base p c fs → Fit c.store f → After p (made c.store) (Reference.perform c q f fs es)
+  perform c q _ fs es b gives = go-ok p c _ fs es b tt
+  perform c q _ fs es b (makes {i = i} ne) =
+      go-with-ok p c _ fs _ es b (extends-append c.store (i ∷ []))
+      (store-append p c.store (i ∷ []) b.store (λ m r j. absurd (one_item m r i (ne m r) j))) tt
+  perform c q _ fs es b (changes {l = l} {i = i} old e k) =
+      go-with-ok p c _ fs _ es b (extends-set c.store l old i e k) (store-set p c.store l old i e k b.store) tt
+  perform c q _ fs es b puts = go-ok p c _ fs es b tt
+  perform c q _ fs es b takes_input = take_input c _ _ fs es b
+  perform c q _ fs es b peeks = peek_input c _ _ fs es b
+  perform c q _ fs es b fails = omega arith
+
+  -- the variables of a `let` are made, and its body is evaluated
+  let_body : (c : Config) (xs : List ℕ) (e : Tree) (vs : List Value) (r : Env) (fs : List Frame) (es : List Event) → Base p c fs → Each (NodeOk p) e → length xs ≡ length vs → Covers c.store (without xs (free I e)) r → After p (made c.store) (Reference.go_with c (Reference.eval (own_context p) e (bind_from xs (length c.store) r)) fs (c.store ++ vars vs) es)
+  let_body c xs e vs r fs es b n l h =
+      let st = c.store ++ vars vs in
+      let at : (i : ℕ) → i < length xs → VarAt st (length c.store + i) = λ i q. let v = vars-at vs i (omega arith) in (v.0, get-right c.store (vars vs) _ i refl ∙ v.1) in
+      go-with-ok p c _ fs st es b (extends-append c.store (vars vs))
+      (store-append p c.store (vars vs) b.store (λ m q j. absurd (vars-no-closure vs m q j)))
+      (n, covers-own st (free I e) _ (covers-bound c.store st xs (length c.store) r (free I e) (extends-append c.store (vars vs)) at (λ y i q. h y (in-without xs (free I e) y i q))))
+
+  complete : (c : Config) (q : Place) (s : ℕ) (f : Form) (vs : List Value) (r : Env) (fs : List Frame) (es : List Event) → Base p c fs → has_order f ≡ true → NodeKeeps p s f → EachForm (NodeOk p) f → length vs ≡ count (operands f) → Covers c.store (let_free I f) r → After p (made c.store) (Reference.complete (own_context p) c q f vs r fs es)
+  complete c q s (Call f ds) [] r fs es b o k n l h = absurd (omega arith)
+  complete c q s (Call f ds) (v ∷ vs) r fs es b o k n l h = enter c q v vs fs es b
+  complete c q s (Apply f g) [] r fs es b o k n l h = absurd (omega arith)
+  complete c q s (Apply f g) (v ∷ []) r fs es b o k n l h = absurd (omega arith)
+  complete c q s (Apply f g) (v ∷ w ∷ []) r fs es b o k n l h = apply c q v w fs es b
+  complete c q s (Apply f g) (v ∷ w ∷ u ∷ vs) r fs es b o k n l h = absurd (omega arith)
+  complete c q s (PrimUse pr ds) vs r fs es b o k n l h = perform c q _ fs es b (fits c.store pr vs (l ∙ k.shaped))
+  complete c q s (Let xs ds e) vs r fs es b o k n l h = let_body c xs e vs r fs es b n.1 (k.shaped ∙ sym l) h
+  complete c q s _ vs r fs es b o k n l h = cc
