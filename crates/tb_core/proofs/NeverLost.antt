@@ -176,3 +176,105 @@ module _ (p : ProgramTree) (rules : KeepsRules p) where
   complete c q s (PrimUse pr ds) vs r fs es b o k n l h = perform c q _ fs es b (fits c.store pr vs (l ∙ k.shaped))
   complete c q s (Let xs ds e) vs r fs es b o k n l h = let_body c xs e vs r fs es b n.1 (k.shaped ∙ sym l) h
   complete c q s _ vs r fs es b o k n l h = cc
+
+  -- the line of a node has as many numbers as the node has operands
+  line_count : (s : ℕ) (f : Form) → has_order f ≡ true → NodeOk p s f → length (line_at (order_of p) s) ≡ count (operands f)
+  line_count s f o k = ap length (k.1 o) ∙ line-length (is_assigned p) (operands f)
+
+  operand : (c : Config) (q : Place) (s : ℕ) (f : Form) (vs : List Value) (r : Env) (n : ℕ) (ns : List ℕ) (t : Option Tree) (fs : List Frame) (es : List Event) → Base p c fs → has_order f ≡ true → NodeOk p s f → EachForm (NodeOk p) f → n ∷ ns ≡ drop (length vs) (line_at (order_of p) s) → tree_at (operands f) n ≡ t → Covers c.store (free_of_numbers (own_context p) (operands f) (n ∷ ns) ++ let_free I f) r → After p (made c.store) (Reference.operand (own_context p) c q s f vs r ns t fs es)
+  operand c q s f vs r n ns None fs es b o k parts d e h =
+      let m = drop_at (length vs) (line_at (order_of p) s) n ns d in
+      let t = tree-within (operands f) n (line-within (is_assigned p) (operands f) n (subst (IsIn n) (k.1 o) m.2)) in
+      let no_tree : None ≡ Some t.0 = sym e ∙ t.1 in
+      cc
+  operand c q s f vs r n ns (Some a) fs es b o k parts d e h =
+      let m = drop_at (length vs) (line_at (order_of p) s) n ns d in
+      let X = own_context p in
+      let first : Covers c.store (free I a) r = λ y i. h y (in-left y (free_of_numbers X (operands f) (n ∷ ns)) _ (in-left y (Reference.free_of_tree X (tree_at (operands f) n)) _ (subst (λ t. IsIn y (Reference.free_of_tree X t)) (sym e) i))) in
+      let rest : Covers c.store (free_of_numbers X (operands f) ns ++ let_free I f) r = λ y i. h y (⊎_elim (λ j. in-left y (free_of_numbers X (operands f) (n ∷ ns)) _ (in-right y (Reference.free_of_tree X (tree_at (operands f) n)) _ j)) (λ j. in-right y (free_of_numbers X (operands f) (n ∷ ns)) _ j) (in-either y (free_of_numbers X (operands f) ns) _ i)) in
+      let wider : (y : ℕ) → IsIn y (free_of_numbers X (operands f) ns ++ let_free I f) → IsIn y (free_of_numbers X (operands f) ns ++ free_of_body X f) = λ y i. ⊎_elim (λ j. in-left y (free_of_numbers X (operands f) ns) _ j) (λ j. in-right y (free_of_numbers X (operands f) ns) _ (let-free-body X f y j)) (in-either y (free_of_numbers X (operands f) ns) _ i) in
+      let kept = covers-cut c.store (free_of_numbers X (operands f) ns ++ free_of_body X f) (free_of_numbers X (operands f) ns ++ let_free I f) r wider rest in
+      let args : ArgsOk p c.store s f vs (cut (free_of_numbers X (operands f) ns ++ free_of_body X f) r) = record { ordered = o; node = k; parts = parts; short = m.1; covers = subst (λ v. Covers c.store (free_of_numbers X (operands f) v ++ let_free I f) (cut (free_of_numbers X (operands f) ns ++ free_of_body X f) r)) (sym m.0) kept } in
+      eval_ok c a r _ es (base-push p c (Args q s f vs (cut (free_of_numbers X (operands f) ns ++ free_of_body X f) r)) fs b args) (operand-each (NodeOk p) f n a parts e) first
+
+  operands_left : (c : Config) (q : Place) (s : ℕ) (f : Form) (vs : List Value) (r : Env) (ns : List ℕ) (fs : List Frame) (es : List Event) → Base p c fs → has_order f ≡ true → NodeOk p s f → EachForm (NodeOk p) f → ns ≡ drop (length vs) (line_at (order_of p) s) → length vs ≤ length (line_at (order_of p) s) → Covers c.store (free_of_numbers (own_context p) (operands f) ns ++ let_free I f) r → After p (made c.store) (Reference.operands_left (own_context p) c q s f vs r ns fs es)
+  operands_left c q s f vs r [] fs es b o k parts d le h =
+      let line = line_at (order_of p) s in
+      let size = line_count s f o k in
+      let all : (j : ℕ) → j < length line → IsIn j line = λ j lt. subst (IsIn j) (sym (k.1 o)) (line-all (is_assigned p) (operands f) j (omega arith)) in
+      let len = arranged-length 0 (length line) line vs (λ j lt. all j (omega arith)) (drop_none (length vs) line d) in
+      complete c q s f (arranged 0 (length line) line vs) r fs es b o k.0 parts (len ∙ size) h
+  operands_left c q s f vs r (n ∷ ns) fs es b o k parts d le h = operand c q s f vs r n ns _ fs es b o k parts d refl h
+
+  first_operand : (c : Config) (q : Place) (s : ℕ) (f : Form) (r : Env) (es : List Event) → Base p c c.frames → has_order f ≡ true → NodeOk p s f → EachForm (NodeOk p) f → Covers c.store (free_form I f) r → After p (made c.store) (Reference.operands_left (own_context p) c q s f [] r (line_at (order_of p) s) c.frames es)
+  first_operand c q s f r es b o k parts h =
+      operands_left c q s f [] r (line_at (order_of p) s) c.frames es b o k parts refl (omega arith) (covers-operands (own_context p) c.store f (line_at (order_of p) s) r o h)
+
+  set_local : (c : Config) (o : Option ℕ) (l : ℕ) (e : Tree) (r : Env) (es : List Event) → Base p c c.frames → o ≡ Some l → VarAt c.store l → Each (NodeOk p) e → Covers c.store (free I e) r → After p (made c.store) (Reference.set_local (own_context p) c o e r es)
+  set_local c None l e r es b q v n h = cc
+  set_local c (Some k) l e r es b q v n h =
+      eval_ok c e r _ es (base-push p c (SetVar k) c.frames b (subst (VarAt c.store) (sym (same_Some k l q)) v)) n h
+
+  make_closure : (c : Config) (l : ℕ) (r : Env) (es : List Event) → Base p c c.frames → l < length p.lambdas → Covers c.store (I l) r → After p (made c.store) (Reference.go_with c (Val (At (length c.store))) c.frames (c.store ++ Clo l (cut (I l) r) ∷ []) es)
+  make_closure c l r es b lt h =
+      let g = got p.lambdas l lt in
+      let is = Clo l (cut (I l) r) ∷ [] in
+      go-with-ok p c _ c.frames (c.store ++ is) es b (extends-append c.store is)
+      (store-append p c.store is b.store (λ m q j. ⊎_elim
+        (λ e.
+        let s : l ≡ m = cc in
+        let t : cut (I l) r ≡ q = cc in
+        subst (λ v. CloOk p (c.store ++ is) v q) s (subst (CloOk p (c.store ++ is) l) t (record { lambda = g.0; known = g.1; covers = Stores.covers-extends c.store (c.store ++ is) (I l) (cut (I l) r) (extends-append c.store is) (covers-own c.store (I l) r h) })))
+        (λ x. absurd x)
+        j))
+      tt
+
+  bind_procedures : (c : Config) (xs ls : List ℕ) (e : Tree) (r : Env) (es : List Event) → Base p c c.frames → length xs ≡ length ls → Every (λ l. l < length p.lambdas) ls → Each (NodeOk p) e → Covers c.store (without xs (of_lambdas I ls ++ free I e)) r → After p (made c.store) (Reference.bind_procedures (own_context p) c xs ls e (bind_from xs (length c.store) (cut (without xs (of_lambdas I ls ++ free I e)) r)) es)
+  bind_procedures c xs ls e r es b len lts n h =
+      let all = of_lambdas I ls ++ free I e in
+      let inside = cut (without xs all) r in
+      let now = bind_from xs (length c.store) inside in
+      let is = located xs (length c.store + length xs) ++ closures (own_context p) ls now in
+      let st = c.store ++ is in
+      let at : (i : ℕ) → i < length xs → VarAt st (length c.store + i) = λ i q. let v = located-at xs (closures (own_context p) ls now) (length c.store + length xs) i q in (v.0, get-right c.store is _ i refl ∙ v.1) in
+      let whole : Covers st all now = covers-bound c.store st xs (length c.store) inside all (extends-append c.store is) at (λ y i q. covers-own c.store (without xs all) r h y (in-without xs all y i q)) in
+      go-with-ok p c (Bound e now) c.frames st es b (extends-append c.store is)
+      (store-append p c.store is b.store (λ m q j. ⊎_elim
+        (λ k. absurd (located-no-closure xs _ m q k))
+        (λ k.
+        let f = in_closures p ls now m q k in
+        let g = got p.lambdas m (every_in (λ l. l < length p.lambdas) ls m lts f.0) in
+        subst (CloOk p st m) f.1 (record { lambda = g.0; known = g.1; covers = covers-own st (I m) now (λ y i. whole y (in-left y (of_lambdas I ls) _ (in_lambdas I ls m y f.0 i))) }))
+        (in-either (Clo m q) (located xs (length c.store + length xs)) _ j)))
+      (n, λ y i. whole y (in-right y (of_lambdas I ls) _ i))
+
+  local_some : (c : Config) (o : Option ℕ) (l : ℕ) → o ≡ Some l → VarAt c.store l → (v : Value) × (Reference.local_value o c.store ≡ Some v)
+  local_some c o l e v = (v.0, ap (λ w. Reference.local_value w c.store) e ∙ ap Reference.held_value v.1)
+
+  eval_form : (c : Config) (q : Place) (s : ℕ) (f : Form) (r : Env) (es : List Event) → Base p c c.frames → NodeOk p s f → EachForm (NodeOk p) f → Covers c.store (free_form I f) r → After p (made c.store) (Reference.eval_form (own_context p) c q s f r es)
+  eval_form c q s (Quote k) r es b n parts h = go-ok p c _ _ es b tt
+  eval_form c q s (Local y) r es b n parts h =
+      let f = h y (inl refl) in
+      let v = local_some c (lookup r y) f.0 f.1 f.2 in
+      read_some c q _ v.0 es v.1 b
+  eval_form c q s (Global g) r es b n parts h =
+      let e = b.globals in
+      let lt : g < length p.globals = (n.0).in_range in
+      let v = got c.globals g (omega arith) in
+      read_some c q _ v.0 es v.1 b
+  eval_form c q s (Lambda l) r es b n parts h = make_closure c l r es b (n.0).in_range h
+  eval_form c q s (If a d e) r es b n parts h =
+      eval_ok c a r _ es
+      (base-push p c _ c.frames b (parts.1, parts.2, covers-own c.store (free I d ++ free I e) r (λ y i. h y (in-right y (free I a) _ i))))
+      parts.0 (λ y i. h y (in-left y (free I a) _ i))
+  eval_form c q s (SetLocal y e) r es b n parts h =
+      let f = h y (inl refl) in
+      set_local c (lookup r y) f.0 e r es b f.1 f.2 parts (λ z i. h z (inr i))
+  eval_form c q s (SetGlobal g e) r es b n parts h = eval_ok c e r _ es (base-push p c (SetGlo g false q) c.frames b (n.0).in_range) parts h
+  eval_form c q s (DefGlobal g e) r es b n parts h = eval_ok c e r _ es (base-push p c (SetGlo g true q) c.frames b (n.0).in_range) parts h
+  eval_form c q s (Seq ds) r es b n parts h = sequence c ds r c.frames es b parts (n.0).shaped h
+  eval_form c q s (Letrec xs ls e) r es b n parts h = bind_procedures c xs ls e r es b (n.0).shaped (n.0).in_range parts h
+  eval_form c q s (Call f ds) r es b n parts h = first_operand c q s (Call f ds) r es b refl n parts h
+  eval_form c q s (PrimUse pr ds) r es b n parts h = first_operand c q s (PrimUse pr ds) r es b refl n parts h
+  eval_form c q s (Apply f l) r es b n parts h = first_operand c q s (Apply f l) r es b refl n parts h
+  eval_form c q s (Let xs ds e) r es b n parts h = first_operand c q s (Let xs ds e) r es b refl n parts h
