@@ -1,13 +1,13 @@
 -- What the primitives do with as many operands as they take: each effect can be carried out, and changes an
 -- item into one of its kind and size.
 use Rattle.std.specs.Prelude.{◌+ℤ◌, ◌-ℤ◌, ◌*ℤ◌, int_div}
-use Rattle.std.proofs.Common.{◌≡◌, ◌≤◌, refl, sym, ap, ◌∙◌, ℕ, zero, suc, arith, ℤ, pos, negsuc, Bool, true, false, cond, List, [], ◌∷◌, length, Option, Some, None, slice_get, slice_set, nat_lt, length-set}
+use Rattle.std.proofs.Common.{◌≡◌, ◌≤◌, refl, sym, ap, ◌∙◌, ℕ, suc, arith, ℤ, pos, negsuc, Bool, true, false, cond, List, [], ◌∷◌, length, Option, Some, None, slice_get, nat_lt, length-set}
 use Rattle.tb_prim.specs.declared.event.Cause.{Cause}
 use Rattle.tb_prim.specs.declared.primitive.Primitive.{Primitive}
 use Rattle.tb_prim.specs.declared.primitive.Primitive.TheVariants.{Cons, Car, Cdr, SetCar, SetCdr, IsPair, IsNull, Not, IsBoolean, IsSymbol, IsChar, IsString, IsVector, IsProcedure, IsInteger, IsEof, Eq, Add, Sub, Mul, Quotient, Remainder, Modulo, NumEq, Less, Greater, LessEq, GreaterEq, CharToInt, IntToChar, MakeVector, VectorRef, VectorSet, VectorLength, MakeString, StringRef, StringSet, StringLength, SymbolLength, SymbolRef, ReadChar, PeekChar, WriteChar, Unspecified as UnspecifiedPrim}
 use Rattle.tb_prim.specs.Primitives.{arity_of}
-use Rattle.tb_core.specs.Store.{Value, Fix, Char, Truth, Nil, Unspecified, EndObject, At, Env, Item, Var, Pair, Vec, Str, Sym, Clo}
-use Rattle.tb_core.specs.Effects.{Effect, Gives, Makes, Changes, Puts, Takes, Peeks, Fails, Misused, is_fixnum, with_fix, with_char, at_item, with_item, if_pair, if_vector, if_string, if_symbol, with_index, gives_at, gives_fix, with_length, is_zero, effect_0, effect_1, effect_2, effect_3, effect_of}
+use Rattle.tb_core.specs.Store.{Value, Fix, Char, At, Env, Item, Pair, Vec, Str, Sym, Clo}
+use Rattle.tb_core.specs.Effects.{Effect, Gives, Makes, Changes, Puts, Takes, Peeks, Fails, is_fixnum, with_fix, with_char, at_item, with_item, if_pair, if_vector, if_string, if_symbol, with_index, gives_at, gives_fix, with_length, is_zero, effect_0, effect_1, effect_2, effect_3, effect_of}
 use Rattle.tb_core.proofs.Stores.{SameKind, pair_kind, vec_kind, str_kind}
 
 -- an effect that can be carried out in the store

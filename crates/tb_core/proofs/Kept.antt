@@ -1,20 +1,20 @@
 -- What a run of a program that keeps its rules keeps: each expression that is to be evaluated keeps the rules,
 -- each environment finds the variables that are named, each procedure is one of the program's, and the frame
 -- of the top level is the last.
-use Rattle.std.proofs.Common.{◌≡◌, refl, sym, ap, ◌∙◌, subst, ℕ, zero, suc, ◌+◌, ◌<◌, ◌≤◌, ◌⊎◌, inl, inr, ⊎_elim, arith, Bool, true, false, cond, List, [], ◌∷◌, ◌++◌, length, drop, Option, Some, None, slice_get, slice_set}
+use Rattle.std.proofs.Common.{◌≡◌, refl, sym, subst, ℕ, zero, suc, ◌<◌, ◌≤◌, ◌⊎◌, inl, inr, ⊎_elim, arith, true, List, [], ◌∷◌, ◌++◌, length, drop, Option, Some, None, slice_get, slice_set}
 use Rattle.std.proofs.lemmas.Option.{same_Some}
 use Rattle.tb_prim.specs.declared.event.Event.{Event}
 use Rattle.tb_semantics.specs.Graph.{IsIn}
 use Rattle.tb_core.specs.Tree.{Tree, Node, Form, Quote, Local, Global, Lambda, If, SetLocal, SetGlobal, DefGlobal, Let, Letrec, Seq, Call, PrimUse, Apply, Trees, none, more, count, tree_at, LambdaTree, ProgramTree}
-use Rattle.tb_core.specs.FreeVariables.{is_in, without, of_lambdas, free, free_form, free_all, inner_free, is_assigned}
-use Rattle.tb_core.specs.OperandOrder.{operands, has_order, line_of, line_at, order_of, HasLine}
-use Rattle.tb_core.specs.Store.{Value, Env, Item, Var, Clo}
+use Rattle.tb_core.specs.FreeVariables.{without, free, free_form, free_all, inner_free}
+use Rattle.tb_core.specs.OperandOrder.{operands, has_order, line_at, order_of, HasLine}
+use Rattle.tb_core.specs.Store.{Value, Env, Item, Clo}
 use Rattle.tb_core.specs.Space.{made}
-use Rattle.tb_core.specs.Rules.{Every, Each, EachForm, EachAll, NodeKeeps, LambdaKeeps, KeepsRules}
+use Rattle.tb_core.specs.Rules.{Each, EachForm, EachAll, NodeKeeps}
 use Rattle.tb_core.specs.Reference
 use Rattle.tb_core.specs.Reference.{Control, Eval, Bound, Val, Entering, Work, Sel, SetVar, SetGlo, Rest, Args, Top, Frame, Config, State, Running, Stopped, Lost, Context, context_of, free_of_tree, free_of_numbers, free_of_body}
-use Rattle.tb_core.proofs.Members.{in-left, in-right, in-either, in-without, without-sub}
-use Rattle.tb_core.proofs.Stores.{VarAt, Found, Covers, Extends, covers-extends, extends-append, extends-set, extends_refl, get-either, SameKind, set-closure}
+use Rattle.tb_core.proofs.Members.{in-left, in-right, in-either, without-sub}
+use Rattle.tb_core.proofs.Stores.{VarAt, Covers, Extends, covers-extends, extends-append, extends-set, get-either, SameKind, set-closure}
 
 -- the rules of a node, and its line
 abbrev pub NodeOk : ProgramTree → ℕ → Form → Type 0
@@ -81,7 +81,6 @@ free_of_some : (x : Context) (es : Trees) (ns : List ℕ) (y : ℕ) → IsIn y (
 free_of_some x es [] y i = absurd i
 free_of_some x es (n ∷ ns) y i =
     ⊎_elim (λ j. free_of_one x es n (tree_at es n) y refl j) (λ j. free_of_some x es ns y j) (in-either y (free_of_tree x (tree_at es n)) _ i)
-
 
 operands_free : (inner : ℕ → List ℕ) (f : Form) (y : ℕ) → has_order f ≡ true → IsIn y (free_all inner (operands f)) ⊎ IsIn y (let_free inner f) → IsIn y (free_form inner f)
 operands_free inner (Let xs es e) y h (inl i) = in-left y (free_all inner es) _ i

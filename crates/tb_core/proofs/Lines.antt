@@ -1,5 +1,5 @@
 -- The line of a node has the number of each operand once, and the values by its numbers are those of all.
-use Rattle.std.proofs.Common.{◌≡◌, refl, sym, ap, ◌∙◌, subst, ℕ, zero, suc, ◌+◌, ◌<◌, ◌≤◌, ◌⊎◌, inl, inr, ⊎_elim, arith, Bool, true, false, cond, ◌==◌, List, [], ◌∷◌, ◌++◌, length, Option, Some, None, length-append, eq-eqb}
+use Rattle.std.proofs.Common.{◌≡◌, refl, ap, ◌∙◌, ℕ, zero, suc, ◌+◌, ◌<◌, ◌≤◌, ◌⊎◌, inl, inr, ⊎_elim, arith, Bool, true, false, cond, ◌==◌, List, [], ◌∷◌, length, Some, length-append}
 use Rattle.std.proofs.lemmas.Bool.{cases_Bool, cases_lt, eqb-true, eqb-false}
 use Rattle.tb_semantics.specs.Graph.{IsIn}
 use Rattle.tb_core.specs.Tree.{Tree, Trees, none, more, count, tree_at}
@@ -38,7 +38,7 @@ numbers_all a n (more e es) j h k =
     ⊎_elim
     (λ q. ⊎_elim (λ i. inl (in-left j (own (is_simple a e) false n) _ i)) (λ i. inr (in-left j (own (is_simple a e) true n) _ i)) (own_one (is_simple a e) n j (eqb-true n j q)))
     (λ q. let ne = eqb-false n j q in
-      ⊎_elim (λ i. inl (in-right j (own (is_simple a e) false n) _ i)) (λ i. inr (in-right j (own (is_simple a e) true n) _ i)) (numbers_all a (suc n) es j (past n j h ne) (omega arith)))
+    ⊎_elim (λ i. inl (in-right j (own (is_simple a e) false n) _ i)) (λ i. inr (in-right j (own (is_simple a e) true n) _ i)) (numbers_all a (suc n) es j (past n j h ne) (omega arith)))
     (cases_Bool (n == j))
   where
     past : (n j : ℕ) → n ≤ j → (n ≡ j → ⊥) → suc n ≤ j
@@ -78,7 +78,7 @@ value_found j (n ∷ line) (v ∷ vs) i h =
     ⊎_elim
     (λ q. (v, ap (λ b. cond b (Some v) (value_for j line vs)) q))
     (λ q. let f = value_found j line vs (⊎_elim (λ e. absurd (eqb-false n j q e)) (λ k. k) i) (omega arith) in
-      (f.0, ap (λ b. cond b (Some v) (value_for j line vs)) q ∙ f.1))
+    (f.0, ap (λ b. cond b (Some v) (value_for j line vs)) q ∙ f.1))
     (cases_Bool (n == j))
 
 pub arranged-length : (i k : ℕ) (line : List ℕ) (vs : List Value) → ((j : ℕ) → j < i + k → IsIn j line) → length line ≤ length vs → length (arranged i k line vs) ≡ k

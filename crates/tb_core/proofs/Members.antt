@@ -1,5 +1,5 @@
 -- Elements of lists that are joined, and tests of them.
-use Rattle.std.proofs.Common.{◌≡◌, refl, sym, ap, ◌∙◌, subst, ℕ, zero, suc, ◌+◌, ◌<◌, ◌⊎◌, inl, inr, ⊎_elim, arith, Bool, true, false, cond, not, ◌==◌, ◌||◌, List, [], ◌∷◌, ◌++◌, filter, length, Option, Some, None, slice_get, eqb-true, eq-eqb}
+use Rattle.std.proofs.Common.{◌≡◌, refl, sym, ap, ◌∙◌, subst, ℕ, ◌⊎◌, inl, inr, ⊎_elim, Bool, true, false, cond, not, ◌==◌, ◌||◌, List, [], ◌∷◌, ◌++◌, eqb-true, eq-eqb}
 use Rattle.std.proofs.lemmas.Bool.{or_cases}
 use Rattle.tb_semantics.specs.Graph.{IsIn}
 use Rattle.tb_core.specs.FreeVariables.{is_in, without}

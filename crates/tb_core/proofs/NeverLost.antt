@@ -1,21 +1,20 @@
 -- A run of a program that keeps its rules, in its own order, always has a next step until it stops; and what
 -- was made only grows.
-use Rattle.std.proofs.Common.{◌≡◌, refl, sym, ap, ◌∙◌, subst, ℕ, zero, suc, ◌+◌, ◌<◌, ◌≤◌, ◌⊎◌, inl, inr, ⊎_elim, arith, Bool, true, false, cond, ◌==◌, nat_le, List, [], ◌∷◌, ◌++◌, length, take, drop, map, replicate, Option, Some, None, slice_get, slice_set, length-append, length-set, append-nil}
+use Rattle.std.proofs.Common.{◌≡◌, refl, sym, ap, ◌∙◌, subst, ℕ, zero, suc, ◌+◌, ◌<◌, ◌≤◌, inl, inr, ⊎_elim, arith, Bool, true, false, cond, List, [], ◌∷◌, ◌++◌, length, take, drop, map, Option, Some, None, slice_get, length-append, length-set, append-nil}
 use Rattle.std.proofs.lemmas.Bool.{eqb-true, leb-true}
 use Rattle.std.proofs.lemmas.List.{length-replicate}
 use Rattle.std.proofs.lemmas.Option.{same_Some}
 use Rattle.tb_prim.specs.declared.place.Place.{Place}
 use Rattle.tb_prim.specs.declared.constant.Static.{Static}
 use Rattle.tb_prim.specs.declared.event.Event.{Event}
-use Rattle.tb_prim.specs.Primitives.{arity_of}
 use Rattle.tb_semantics.specs.Graph.{IsIn}
 use Rattle.tb_semantics.specs.Runs.{run, after}
 use Rattle.tb_semantics.proofs.RunLaws.{run-add}
 use Rattle.tb_core.specs.Tree.{Tree, Node, Form, Quote, Local, Global, Lambda, If, SetLocal, SetGlobal, DefGlobal, Let, Letrec, Seq, Call, PrimUse, Apply, Trees, none, more, count, tree_at, LambdaTree, ProgramTree, parameters, option_list}
-use Rattle.tb_core.specs.FreeVariables.{is_in, without, of_lambdas, free, free_form, free_all, lambda_free, inner_free, is_assigned}
-use Rattle.tb_core.specs.OperandOrder.{operands, has_order, line_of, line_at, order_of}
-use Rattle.tb_core.specs.Store.{Value, Fix, Char, Truth, Nil, Unspecified, Undefined, EndObject, At, Env, Empty, Item, Var, Pair, Vec, Str, Sym, Clo, lookup, cut, bind_from, static_item}
-use Rattle.tb_core.specs.Effects.{Effect, Gives, Makes, Changes, Puts, Takes, Peeks, Fails, Misused, is_false, effect_of}
+use Rattle.tb_core.specs.FreeVariables.{is_in, without, of_lambdas, free, free_form, free_all, inner_free, is_assigned}
+use Rattle.tb_core.specs.OperandOrder.{operands, has_order, line_at, order_of}
+use Rattle.tb_core.specs.Store.{Value, Fix, Char, Truth, Nil, Unspecified, Undefined, EndObject, At, Env, Item, Var, Clo, lookup, cut, bind_from, static_item}
+use Rattle.tb_core.specs.Effects.{Effect, is_false}
 use Rattle.tb_core.specs.Space.{made, made_of}
 use Rattle.tb_core.specs.Rules.{Every, Each, EachForm, EachAll, NodeKeeps, LambdaKeeps, KeepsRules}
 use Rattle.tb_core.specs.Events.{IsNotLost}
@@ -27,7 +26,7 @@ use Rattle.tb_core.proofs.Lines.{line-within, line-all, line-length, tree-within
 use Rattle.tb_core.proofs.Fits.{Fit, gives, makes, changes, puts, takes as takes_input, peeks, fails, fits}
 use Rattle.tb_core.proofs.Stores
 use Rattle.tb_core.proofs.Stores.{VarAt, Found, Covers, Extends, covers-cut, covers-own, extends_refl, extends-append, extends-set, get-right, covers-bound, vars-at, vars-no-closure, located-at, located-no-closure, pairs-no-closure, SameKind, var_kind}
-use Rattle.tb_core.proofs.Kept.{NodeOk, both, both_all, each-at, operand-each, let_free, let-free-body, free-at, covers-operands, own_context, CloOk, StoreOk, ControlOk, ArgsOk, WorkOk, FramesOk, IsAbove, EndsTop, above, Base, After, store-append, store-set, go-ok, go-with-ok, base-push, base-mark}
+use Rattle.tb_core.proofs.Kept.{NodeOk, both, both_all, each-at, operand-each, let_free, let-free-body, free-at, covers-operands, own_context, CloOk, StoreOk, ControlOk, ArgsOk, WorkOk, FramesOk, IsAbove, EndsTop, Base, After, store-append, store-set, go-ok, go-with-ok, base-push, base-mark}
 
 got : {X : Type 0} (xs : List X) (n : ℕ) → n < length xs → (x : X) × (slice_get xs n ≡ Some x)
 got [] n h = absurd (omega arith)
@@ -221,12 +220,12 @@ module _ (p : ProgramTree) (rules : KeepsRules p) where
       let is = Clo l (cut (I l) r) ∷ [] in
       go-with-ok p c _ c.frames (c.store ++ is) es b (extends-append c.store is)
       (store-append p c.store is b.store (λ m q j. ⊎_elim
-        (λ e.
-        let s : l ≡ m = cc in
-        let t : cut (I l) r ≡ q = cc in
-        subst (λ v. CloOk p (c.store ++ is) v q) s (subst (CloOk p (c.store ++ is) l) t (record { lambda = g.0; known = g.1; covers = Stores.covers-extends c.store (c.store ++ is) (I l) (cut (I l) r) (extends-append c.store is) (covers-own c.store (I l) r h) })))
-        (λ x. absurd x)
-        j))
+      (λ e.
+      let s : l ≡ m = cc in
+      let t : cut (I l) r ≡ q = cc in
+      subst (λ v. CloOk p (c.store ++ is) v q) s (subst (CloOk p (c.store ++ is) l) t (record { lambda = g.0; known = g.1; covers = Stores.covers-extends c.store (c.store ++ is) (I l) (cut (I l) r) (extends-append c.store is) (covers-own c.store (I l) r h) })))
+      (λ x. absurd x)
+      j))
       tt
 
   bind_procedures : (c : Config) (xs ls : List ℕ) (e : Tree) (r : Env) (es : List Event) → Base p c c.frames → length xs ≡ length ls → Every (λ l. l < length p.lambdas) ls → Each (NodeOk p) e → Covers c.store (without xs (of_lambdas I ls ++ free I e)) r → After p (made c.store) (Reference.bind_procedures (own_context p) c xs ls e (bind_from xs (length c.store) (cut (without xs (of_lambdas I ls ++ free I e)) r)) es)
@@ -240,12 +239,12 @@ module _ (p : ProgramTree) (rules : KeepsRules p) where
       let whole : Covers st all now = covers-bound c.store st xs (length c.store) inside all (extends-append c.store is) at (λ y i q. covers-own c.store (without xs all) r h y (in-without xs all y i q)) in
       go-with-ok p c (Bound e now) c.frames st es b (extends-append c.store is)
       (store-append p c.store is b.store (λ m q j. ⊎_elim
-        (λ k. absurd (located-no-closure xs _ m q k))
-        (λ k.
-        let f = in_closures p ls now m q k in
-        let g = got p.lambdas m (every_in (λ l. l < length p.lambdas) ls m lts f.0) in
-        subst (CloOk p st m) f.1 (record { lambda = g.0; known = g.1; covers = covers-own st (I m) now (λ y i. whole y (in-left y (of_lambdas I ls) _ (in_lambdas I ls m y f.0 i))) }))
-        (in-either (Clo m q) (located xs (length c.store + length xs)) _ j)))
+      (λ k. absurd (located-no-closure xs _ m q k))
+      (λ k.
+      let f = in_closures p ls now m q k in
+      let g = got p.lambdas m (every_in (λ l. l < length p.lambdas) ls m lts f.0) in
+      subst (CloOk p st m) f.1 (record { lambda = g.0; known = g.1; covers = covers-own st (I m) now (λ y i. whole y (in-left y (of_lambdas I ls) _ (in_lambdas I ls m y f.0 i))) }))
+      (in-either (Clo m q) (located xs (length c.store + length xs)) _ j)))
       (n, λ y i. whole y (in-right y (of_lambdas I ls) _ i))
 
   local_some : (c : Config) (o : Option ℕ) (l : ℕ) → o ≡ Some l → VarAt c.store l → (v : Value) × (Reference.local_value o c.store ≡ Some v)
@@ -278,3 +277,182 @@ module _ (p : ProgramTree) (rules : KeepsRules p) where
   eval_form c q s (PrimUse pr ds) r es b n parts h = first_operand c q s (PrimUse pr ds) r es b refl n parts h
   eval_form c q s (Apply f l) r es b n parts h = first_operand c q s (Apply f l) r es b refl n parts h
   eval_form c q s (Let xs ds e) r es b n parts h = first_operand c q s (Let xs ds e) r es b refl n parts h
+
+  by_test : (n : ℕ) (b : Bool) (s t : State) → (b ≡ true → After p n s) → After p n t → After p n (cond b s t)
+  by_test n true s t h k = h refl
+  by_test n false s t h k = k
+
+  either : (n : ℕ) (b : Bool) (s t : State) → After p n s → After p n t → After p n (cond b s t)
+  either n true s t h k = h
+  either n false s t h k = k
+
+  -- what is free in the body of a lambda expression is found where its parameters are bound
+  other_found : (c : Config) (m : ℕ) (l : LambdaTree) (xs : List ℕ) (r : Env) → slice_get p.lambdas m ≡ Some l → parameters l ≡ xs → Covers c.store (I m) r → (y : ℕ) → IsIn y (free I l.body) → is_in xs y ≡ false → Found c.store r y
+  other_found c m l xs r e q h y i n =
+      h y (subst (IsIn y) (sym (free-of-lambda p m l rules.inner_greater e)) (in-without (parameters l) (free I l.body) y i (ap (λ v. is_in v y) q ∙ n)))
+
+  bind_parameters : (c : Config) (m : ℕ) (l : LambdaTree) (o : Option ℕ) (vs : List Value) (r : Env) (es : List Event) → Base p c c.frames → slice_get p.lambdas m ≡ Some l → l.rest ≡ o → Covers c.store (I m) r → takes l o (length vs) ≡ true → After p (made c.store) (Reference.bind_parameters (own_context p) c l o vs r es)
+  bind_parameters c m l None vs r es b e q h t =
+      let n = eqb-true (length l.formals) (length vs) t in
+      let st = c.store ++ vars vs in
+      let names : parameters l ≡ l.formals = ap (λ v. l.formals ++ option_list v) q ∙ append-nil l.formals in
+      let at : (i : ℕ) → i < length l.formals → VarAt st (length c.store + i) = λ i lt. let v = vars-at vs i (omega arith) in (v.0, get-right c.store (vars vs) _ i refl ∙ v.1) in
+      go-with-ok p c _ c.frames st es b (extends-append c.store (vars vs))
+      (store-append p c.store (vars vs) b.store (λ k u j. absurd (vars-no-closure vs k u j)))
+      (body_ok m l e, covers-own st (free I l.body) _ (covers-bound c.store st l.formals (length c.store) r (free I l.body) (extends-append c.store (vars vs)) at (other_found c m l l.formals r e names h)))
+  bind_parameters c m l (Some z) vs r es b e q h t =
+      let n = leb-true (length l.formals) (length vs) t in
+      let pairs = list_items (drop (length l.formals) vs) (length c.store) in
+      let ws = take (length l.formals) vs ++ list_value (drop (length l.formals) vs) (length c.store) ∷ [] in
+      let is = pairs ++ vars ws in
+      let st = c.store ++ is in
+      let xs = l.formals ++ z ∷ [] in
+      let first = length c.store + length pairs in
+      let names : parameters l ≡ xs = ap (λ v. l.formals ++ option_list v) q in
+      let taken = take_length (length l.formals) vs n in
+      let many = length-append (take (length l.formals) vs) (list_value (drop (length l.formals) vs) (length c.store) ∷ []) in
+      let wide = length-append l.formals (z ∷ []) in
+      let at : (i : ℕ) → i < length xs → VarAt st (first + i) = λ i lt. let v = vars-at ws i (omega arith) in (v.0, get-right c.store is (first + i) (length pairs + i) (omega arith) ∙ get-right pairs (vars ws) (length pairs + i) i refl ∙ v.1) in
+      go-with-ok p c _ c.frames st es b (extends-append c.store is)
+      (store-append p c.store is b.store (λ k u j. absurd (⊎_elim (λ i. pairs-no-closure (drop (length l.formals) vs) (length c.store) k u i) (λ i. vars-no-closure ws k u i) (in-either (Clo k u) pairs (vars ws) j))))
+      (body_ok m l e, covers-own st (free I l.body) _ (covers-bound c.store st xs first r (free I l.body) (extends-append c.store is) at (other_found c m l xs r e names h)))
+
+  enter_lambda : (c : Config) (m : ℕ) (l : LambdaTree) (o : Option LambdaTree) (vs : List Value) (r : Env) (es : List Event) → Base p c c.frames → slice_get p.lambdas m ≡ Some l → o ≡ Some l → Covers c.store (I m) r → After p (made c.store) (Reference.enter_lambda (own_context p) c o vs r es)
+  enter_lambda c m l None vs r es b e q h = cc
+  enter_lambda c m l (Some k) vs r es b e q h =
+      let s : l ≡ k = sym (same_Some k l q) in
+      by_test (made c.store) (takes k k.rest (length vs)) _ _ (λ t. bind_parameters c m k k.rest vs r es b (e ∙ ap Some s) refl h t) (omega arith)
+
+  entering : (c : Config) (m : ℕ) (r : Env) (o : Option Item) (vs : List Value) (es : List Event) → Base p c c.frames → o ≡ Some (Clo m r) → CloOk p c.store m r → After p (made c.store) (Reference.entering (own_context p) c o vs es)
+  entering c m r o vs es b q h =
+      subst (λ v. After p (made c.store) (Reference.entering (own_context p) c v vs es)) (sym q) (enter_lambda c m h.lambda _ vs r es b h.known h.known h.covers)
+
+  -- the globals alone are others
+  assigned : (c : Config) (g : ℕ) (v : Value) (fs : List Frame) (es : List Event) → Base p c fs → After p (made c.store) (Reference.assign_global c g v fs es)
+  assigned c g v fs es b = (record { store = b.store; globals = length-set c.globals g v ∙ b.globals; frames = b.frames; bottom = b.bottom }, tt, omega arith)
+
+  set_value : (c : Config) (g : ℕ) (q : Place) (v w : Value) (fs : List Frame) (es : List Event) → Base p c fs → After p (made c.store) (Reference.set_global c g q v (Some w) fs es)
+  set_value c g q v Undefined fs es b = omega arith
+  set_value c g q v (Fix n) fs es b = assigned c g v fs es b
+  set_value c g q v (Char n) fs es b = assigned c g v fs es b
+  set_value c g q v (Truth n) fs es b = assigned c g v fs es b
+  set_value c g q v Nil fs es b = assigned c g v fs es b
+  set_value c g q v Unspecified fs es b = assigned c g v fs es b
+  set_value c g q v EndObject fs es b = assigned c g v fs es b
+  set_value c g q v (At l) fs es b = assigned c g v fs es b
+
+  set_global : (c : Config) (g : ℕ) (q : Place) (v : Value) (o : Option Value) (fs : List Frame) (es : List Event) → Base p c fs → (w : Value) → o ≡ Some w → After p (made c.store) (Reference.set_global c g q v o fs es)
+  set_global c g q v o fs es b w e = subst (λ u. After p (made c.store) (Reference.set_global c g q v u fs es)) (sym e) (set_value c g q v w fs es b)
+
+  -- no form has free variables
+  form_closed : (n : ℕ) (e : Tree) (y : ℕ) → tree_at p.forms n ≡ Some e → IsIn y (free I e) → ⊥
+  form_closed n e y q i = subst (IsIn y) rules.in_scope (free-at I p.forms n e y q i)
+
+  -- the store, the globals and the frames below the one on top
+  record Below (c : Config) (fs : List Frame) : Type 0 where
+    below_store : StoreOk p c.store
+    below_globals : length c.globals ≡ length p.globals
+    below_frames : FramesOk p c.store fs
+
+  based : (c : Config) (fs : List Frame) → Below c fs → EndsTop fs → Base p c fs
+  based c fs b t = record { store = b.below_store; globals = b.below_globals; frames = b.below_frames; bottom = t }
+
+  top : (c : Config) (n : ℕ) (o : Option Tree) (fs : List Frame) (es : List Event) → Below c fs → tree_at p.forms n ≡ o → After p (made c.store) (Reference.top (own_context p) c n o fs es)
+  top c n None fs es b e = omega arith
+  top c n (Some a) fs es b e =
+      go-ok p c _ _ es
+      (record { store = b.below_store; globals = b.below_globals; frames = (tt, b.below_frames); bottom = tt })
+      (each-at (NodeOk p) p.forms n a forms_ok e, λ y i. absurd (form_closed n a y e i))
+
+  length_more : (vs : List Value) (v : Value) → length (vs ++ v ∷ []) ≡ suc (length vs)
+  length_more vs v = let h = length-append vs (v ∷ []) in omega arith
+
+  give : (c : Config) (v : Value) (w : Work) (fs : List Frame) (es : List Event) → Below c fs → IsAbove w (EndsTop fs) → WorkOk p c.store w → After p (made c.store) (Reference.give (own_context p) c v w fs es)
+  give c v (Sel a d r) fs es b t h =
+      either (made c.store) (is_false v) _ _
+      (eval_ok c d r fs es (based c fs b t) h.1 (λ y i. h.2 y (in-right y (free I a) _ i)))
+      (eval_ok c a r fs es (based c fs b t) h.0 (λ y i. h.2 y (in-left y (free I a) _ i)))
+  give c v (SetVar l) fs es b t h =
+      go-with-ok p c _ fs _ es (based c fs b t) (extends-set c.store l (Var h.0) (Var v) h.1 (var_kind h.0 v)) (store-set p c.store l (Var h.0) (Var v) h.1 (var_kind h.0 v) b.below_store) tt
+  give c v (SetGlo g true q) fs es b t h = assigned c g v fs es (based c fs b t)
+  give c v (SetGlo g false q) fs es b t h =
+      let e = b.below_globals in
+      let w = got c.globals g (omega arith) in
+      set_global c g q v _ fs es (based c fs b t) w.0 w.1
+  give c v (Rest ds r) fs es b t h = sequence c ds r fs es (based c fs b t) h.0 h.1 h.2
+  give c v (Args q s f vs r) fs es b t h =
+      let n = length_more vs v in
+      let short = h.short in
+      operands_left c q s f (vs ++ v ∷ []) r _ fs es (based c fs b t) h.ordered h.node h.parts refl (omega arith)
+      (subst (λ k. Covers c.store (free_of_numbers (own_context p) (operands f) (drop k (line_at (order_of p) s)) ++ let_free I f) r) (sym n) h.covers)
+  give c v (Top k) fs es b t h = top c k _ fs es b refl
+
+  give_marked : (c : Config) (v : Value) (f : Frame) (fs : List Frame) (es : List Event) (m : Bool) → Below c fs → IsAbove f.work (EndsTop fs) → WorkOk p c.store f.work → After p (made c.store) (cond m (Reference.go c (Val v) (record f { marked = false } ∷ fs) (Reference.emit es Event.Back)) (Reference.give (own_context p) c v f.work fs es))
+  give_marked c v f fs es true b t h = go-ok p c _ _ es (record { store = b.below_store; globals = b.below_globals; frames = (h, b.below_frames); bottom = t }) tt
+  give_marked c v f fs es false b t h = give c v f.work fs es b t h
+
+  give_top : (c : Config) (v : Value) (fs : List Frame) (es : List Event) → Base p c fs → After p (made c.store) (Reference.give_top (own_context p) c v fs es)
+  give_top c v [] es b = absurd b.bottom
+  give_top c v (f ∷ fs) es b =
+      give_marked c v f fs es f.marked (record { below_store = b.store; below_globals = b.globals; below_frames = (b.frames).1 }) b.bottom (b.frames).0
+
+  step_control : (c : Config) (k : Control) (es : List Event) → Base p c c.frames → ControlOk p c.store k → After p (made c.store) (Reference.step_control (own_context p) c k es)
+  step_control c (Eval (Node q s f) r) es b h = eval_form c q s f r es b h.0.0 h.0.1 h.1
+  step_control c (Bound e r) es b h = eval_ok c e r c.frames es b h.0 h.1
+  step_control c (Val v) es b h = give_top c v c.frames es b
+  step_control c (Entering l vs) es b h = entering c h.0 h.1 (slice_get c.store l) vs es b h.2 (b.store l h.0 h.1 h.2)
+
+  larger : (n k : ℕ) (s : State) → k ≤ n → After p n s → After p k s
+  larger n k (Running c es) le h = let m = h.2 in (h.0, h.1, omega arith)
+  larger n k (Stopped c es) le h = omega arith
+  larger n k (Lost c es) le h = h
+
+  step : (n : ℕ) (s : State) → After p n s → After p n (Reference.step (own_context p) s)
+  step n (Running c es) h = larger (made c.store) n _ h.2 (step_control c c.control es h.0 h.1)
+  step n (Stopped c es) h = h
+  step n (Lost c es) h = h
+
+  steps : (n k : ℕ) (s : State) → After p n s → After p n (run (Reference.step (own_context p)) k s)
+  steps n zero s h = h
+  steps n (suc k) s h = steps n k (Reference.step (own_context p) s) (step n s h)
+
+  static_no_closure : (ss : List Static) (a m : ℕ) (r : Env) → slice_get (map static_item ss) a ≡ Some (Clo m r) → ⊥
+  static_no_closure [] a m r e = cc
+  static_no_closure (Static.Pair x y ∷ ss) zero m r e = cc
+  static_no_closure (Static.Vector xs ∷ ss) zero m r e = cc
+  static_no_closure (Static.Str bs ∷ ss) zero m r e = cc
+  static_no_closure (Static.Sym bs ∷ ss) zero m r e = cc
+  static_no_closure (s ∷ ss) (suc a) m r e = static_no_closure ss a m r e
+
+  start : (input : List ℕ) → After p 0 (Running (Reference.start_of p input) [])
+  start input =
+      (record { store = λ a m r e. absurd (static_no_closure p.statics a m r e); globals = length-replicate (length p.globals) Undefined; frames = (tt, tt); bottom = tt }, tt, omega arith)
+
+  pub run-keeps : (input : List ℕ) (n : ℕ) → After p 0 (after (reference p (order_of p) input) n)
+  run-keeps input n = steps 0 n _ (start input)
+
+found : (p : ProgramTree) (n : ℕ) (s : State) → After p n s → IsNotLost s
+found p n (Running c es) h = tt
+found p n (Stopped c es) h = tt
+found p n (Lost c es) h = h
+
+-- no run of a program is lost
+pub never-lost : (p : ProgramTree) (input : List ℕ) (n : ℕ) → KeepsRules p → IsNotLost (after (reference p (order_of p) input) n)
+never-lost p input n k = found p 0 _ (run-keeps p k input n)
+
+own_size : (p : ProgramTree) (n : ℕ) (s : State) → After p n s → After p (made_of s) s
+own_size p n (Running c es) h = (h.0, h.1, omega arith)
+own_size p n (Stopped c es) h = omega arith
+own_size p n (Lost c es) h = h
+
+at_least : (p : ProgramTree) (n : ℕ) (s : State) → After p n s → n ≤ made_of s
+at_least p n (Running c es) h = h.2
+at_least p n (Stopped c es) h = h
+at_least p n (Lost c es) h = absurd h
+
+-- what was made only grows
+pub made-grows : (p : ProgramTree) (input : List ℕ) (n k : ℕ) → KeepsRules p → made_of (after (reference p (order_of p) input) n) ≤ made_of (after (reference p (order_of p) input) (n + k))
+made-grows p input n k r =
+    let m = reference p (order_of p) input in
+    let s = after m n in
+    subst (λ t. made_of s ≤ made_of t) (sym (run-add m.step n k m.start)) (at_least p (made_of s) _ (steps p r (made_of s) k s (own_size p 0 s (run-keeps p r input n))))
