@@ -9,6 +9,7 @@ mod rules;
 
 pub use examples::{
     worked_closures, worked_orders, worked_primitives, worked_programs, worked_spaces,
+    worked_widths,
 };
 pub use expr::{Core, Expr, ExprRow, LambdaId, LambdaIdRow, Site, VarId, VarRow};
 pub use laws::{
