@@ -1,1 +1,4 @@
+pub mod Calls
+pub mod FaultNames
+pub mod Memory
 pub mod Outside

@@ -64,6 +64,13 @@ LoadsTold files name limit (Err LoadFault.Failed) = Unit {0}
 LoadsTold files name limit (Err LoadFault.TooLong) = IsLonger (files name) limit
 LoadsTold files name limit (Err LoadFault.NoMemory) = Unit {0}
 
+-- what reading all of these bytes gives, where at most `limit` are wanted
+abbrev pub GivesAll : List ℕ → ℕ → Result (Vec ℕ Global) LoadFault → Type 0
+GivesAll left limit (Ok bytes) = bytes.items ≡ left
+GivesAll left limit (Err LoadFault.Failed) = Unit {0}
+GivesAll left limit (Err LoadFault.TooLong) = limit < length left
+GivesAll left limit (Err LoadFault.NoMemory) = Unit {0}
+
 -- a load leaves the files as they are, and gives those of the name
 pub record LoadDoes (before now : Option Files) (name : List ℕ) (limit : ℕ) (result : Result (Vec ℕ Global) LoadFault) : Type 0 where
   pub same : now ≡ before
@@ -100,3 +107,16 @@ SaveDoes before now name bytes result = IfSome before (λ files. SavesTold files
 pub record SaveHasCause (before now : List ℕ → ℕ) (name : List ℕ) (result : Result (Unit {0}) SaveFault) : Type 0 where
   pub counts : CountsOnly before now name
   pub failed : result ≡ Err SaveFault.Failed → Rose (before name) (now name)
+
+-- fewer bytes than all were put, from the front
+pub record PutsSome (held : List ℕ) (now : Option (List ℕ)) (bytes : List ℕ) (count : ℕ) : Type 0 where
+  pub fewer : count < length bytes
+  pub front : now ≡ Some (held ++ take count bytes)
+
+abbrev pub PutsAllTold : List ℕ → Option (List ℕ) → List ℕ → Result (Unit {0}) Failed → Type 0
+PutsAllTold held now bytes (Ok u) = now ≡ Some (held ++ bytes)
+PutsAllTold held now bytes (Err e) = (count : ℕ) × PutsSome held now bytes count
+
+-- what putting all of the bytes does to the bytes held, where they are told
+abbrev pub PutsAll : Option (List ℕ) → Option (List ℕ) → List ℕ → Result (Unit {0}) Failed → Type 0
+PutsAll before now bytes result = IfSome before (λ held. PutsAllTold held now bytes result)

@@ -1,7 +1,8 @@
 ghost use Rattle.std.specs.Prelude.{ℕ, List, Option, ◌<◌, ◌≤◌, ◌^◌, length, IfOk, vec_len};
 ghost use Rattle.tb_base.specs.Outside.{HasCause, PutHasCause, Takes, Puts, LoadDoes, SaveDoes, LoadHasCause, SaveHasCause, SameCounts};
 
-use std::alloc::Global;
+use std::alloc::{AllocError, AllocFailed, Global};
+use tb_prim::NoMemory;
 
 /// A call that failed, with nothing taken and nothing put.
 #[derive(Clone, Copy, Debug, PartialEq, Eq)]
@@ -20,6 +21,61 @@ pub enum LoadFault {
 pub enum SaveFault {
     Failed,
     NoMemory,
+}
+
+impl From<NoMemory> for LoadFault {
+    ghost use Rattle.std.specs.Prelude.{◌≡◌};
+    ghost use Rattle.tb_base.specs.declared.outside.LoadFault.{LoadFault};
+
+    ghost from_gives = { λ _ fault. fault ≡ LoadFault.NoMemory };
+
+    fn from(_: NoMemory) -> LoadFault {
+        LoadFault::NoMemory
+    }
+}
+
+impl From<NoMemory> for SaveFault {
+    ghost use Rattle.std.specs.Prelude.{◌≡◌};
+    ghost use Rattle.tb_base.specs.declared.outside.SaveFault.{SaveFault};
+
+    ghost from_gives = { λ _ fault. fault ≡ SaveFault.NoMemory };
+
+    fn from(_: NoMemory) -> SaveFault {
+        SaveFault::NoMemory
+    }
+}
+
+impl From<AllocError> for LoadFault {
+    ghost use Rattle.std.specs.Prelude.{◌≡◌};
+    ghost use Rattle.tb_base.specs.declared.outside.LoadFault.{LoadFault};
+
+    ghost from_gives = { λ _ fault. fault ≡ LoadFault.NoMemory };
+
+    fn from(_: AllocError) -> LoadFault {
+        LoadFault::NoMemory
+    }
+}
+
+impl From<AllocError> for SaveFault {
+    ghost use Rattle.std.specs.Prelude.{◌≡◌};
+    ghost use Rattle.tb_base.specs.declared.outside.SaveFault.{SaveFault};
+
+    ghost from_gives = { λ _ fault. fault ≡ SaveFault.NoMemory };
+
+    fn from(_: AllocError) -> SaveFault {
+        SaveFault::NoMemory
+    }
+}
+
+impl<T: Drop> From<AllocFailed<T>> for SaveFault {
+    ghost use Rattle.std.specs.Prelude.{◌≡◌};
+    ghost use Rattle.tb_base.specs.declared.outside.SaveFault.{SaveFault};
+
+    ghost from_gives = { λ _ fault. fault ≡ SaveFault.NoMemory };
+
+    fn from(_: AllocFailed<T>) -> SaveFault {
+        SaveFault::NoMemory
+    }
 }
 
 /// Bytes that come in.

@@ -36,3 +36,8 @@ EmitsInOrder {E} {S} m = (s : S) → Appends (m.events s) (m.events (m.step s))
 pub record Keeps {E T S : Type 0} (target : Machine E T) (source : Machine E S) : Type 0 where
   pub events : (n : ℕ) → (m : ℕ) × (target.events (after target n) ≡ source.events (after source m))
   pub comes : (m : ℕ) → (n : ℕ) × (length (source.events (after source m)) ≤ length (target.events (after target n)))
+
+-- after n steps the machine stands still, and has emitted these events
+pub record Ends {E S : Type 0} (m : Machine E S) (n : ℕ) (es : List E) : Type 0 where
+  pub emitted : m.events (after m n) ≡ es
+  pub still : m.step (after m n) ≡ after m n

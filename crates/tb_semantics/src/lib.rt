@@ -6,4 +6,4 @@ mod graphs;
 mod runs;
 
 pub use graphs::{total_is_any_sum, total_is_within};
-pub use runs::{events_only_grow, final_stays, keeps_composes};
+pub use runs::{events_only_grow, final_stays, keeps_composes, same_end_keeps};

@@ -1,5 +1,5 @@
-ghost use Rattle.std.specs.Prelude.{◌≡◌, ℕ, ◌+◌};
-ghost use Rattle.tb_semantics.specs.Runs.{Machine, Keeps, EmitsInOrder, IsPrefix, after};
+ghost use Rattle.std.specs.Prelude.{ℕ, ◌+◌, ◌≡◌, List, []};
+ghost use Rattle.tb_semantics.specs.Runs.{Machine, Keeps, EmitsInOrder, Ends, IsPrefix, after};
 
 /// A machine whose steps only append to its events has, after fewer steps, a prefix of its later events.
 pub fn events_only_grow<E, S>()
@@ -9,6 +9,12 @@ pub fn events_only_grow<E, S>()
 /// Two passes, one after the other, keep what both keep.
 pub fn keeps_composes<E, A, B, C>()
     ensures law { (a : Machine E A) (b : Machine E B) (c : Machine E C) → Keeps a b → Keeps b c → Keeps a c }
+{}
+
+/// Two machines that come to an end with the same events keep one another.
+pub fn same_end_keeps<E, A, B>()
+    ensures law { (a : Machine E A) (b : Machine E B) → EmitsInOrder a → EmitsInOrder b → b.events b.start ≡ [] →
+        (n m : ℕ) (es : List E) → Ends a n es → Ends b m es → Keeps a b }
 {}
 
 /// A run that has come to a state which steps to itself stays there.

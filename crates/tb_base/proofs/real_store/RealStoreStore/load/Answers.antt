@@ -1,0 +1,6 @@
+use Rattle.tb_base.proofs.FaultCounts.{LoadHasCause-push}
+use Rattle.tb_base.proofs.real_store.RealStoreStore.load.Goals as goal
+
+pub returns-in-Err-Failed-clause-cause : goal.returns-in-Err-Failed-clause-cause
+returns-in-Err-Failed-clause-cause g c =
+    rw (c.note_name.ensures, c.in_ok-copy.ensures.names, c.in_ok-copy.ensures.copy, ← c.self.view_is) (LoadHasCause-push c.self.inside.failed_loads.items _ _)

@@ -1,0 +1,4 @@
+pub mod RuleLaws
+pub mod StepLaws
+pub mod StepRules
+pub mod RunLaws

@@ -1,0 +1,9 @@
+pub mod Words
+pub mod Asked
+pub mod Generate
+pub mod Compiled
+pub mod SmallForms
+pub mod SmallGrammar
+pub mod Bits
+pub mod Statuses
+pub mod GoDoes

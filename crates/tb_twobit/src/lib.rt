@@ -1,0 +1,8 @@
+//! The top call: it does all that the program does.
+#![tactic(auto)]
+
+mod generator;
+mod status;
+mod words;
+
+pub use words::{Command, asked_for};
