@@ -30,18 +30,21 @@ cause_number Cause.ZeroDivide = 6
 cause_number Cause.Undefined = 7
 cause_number Cause.TooMany = 8
 
--- a place is LINE:COLUMN, with `lib ` before it in the library
+-- some texts, one after another
+abbrev pub joined : List (List ℕ) → List ℕ
+joined [] = []
+joined (t ∷ ts) = t ++ joined ts
+
+-- `lib ` stands before a place in the library
 abbrev pub library_text : Bool → List ℕ
 library_text true = codes "lib "
 library_text false = []
-
-abbrev pub place_text : Place → List ℕ
-place_text p = library_text p.library ++ (decimal p.line ++ (58 ∷ decimal p.column))
 
 -- the line of a text that is refused as a whole
 abbrev pub refused_line : List ℕ
 refused_line = codes "refused 115 1:1" ++ 10 ∷ []
 
--- the line of a run that failed: its cause and its place
+-- the line of a run that failed: its cause, and its place as LINE:COLUMN
 abbrev pub failed_line : Cause → Place → List ℕ
-failed_line c p = codes "failed " ++ (decimal (cause_number c) ++ (32 ∷ (place_text p ++ 10 ∷ [])))
+failed_line c p =
+    joined (codes "failed " ∷ decimal (cause_number c) ∷ codes " " ∷ library_text p.library ∷ decimal p.line ∷ codes ":" ∷ decimal p.column ∷ (10 ∷ []) ∷ [])

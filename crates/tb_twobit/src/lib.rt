@@ -2,6 +2,7 @@
 #![tactic(auto)]
 
 mod generator;
+mod lines;
 mod status;
 mod words;
 
