@@ -34,16 +34,24 @@ fn sink_in_memory(rt: HostRuntime) -> Result<(), Fail> {
 #[test]
 fn store_in_memory(rt: HostRuntime) -> Result<(), Fail> {
     let alloc = rt.alloc();
-    let mut store = MemStore::new(alloc, &[1, 5])?;
-    store.save(alloc, "a", b"one")?;
-    assert_eq!(rt; store.save(alloc, "a", b"two"), Err(SaveFault::Failed));
-    assert_eq!(rt; store.load(alloc, "a", 3)?.as_slice(), b"one".as_slice());
-    assert_eq!(rt; store.load(alloc, "a", 2).err(), Some(LoadFault::TooLong));
-    assert_eq!(rt; store.load(alloc, "b", 3).err(), Some(LoadFault::Failed));
-    assert_eq!(rt; store.load(alloc, "a", 2).err(), Some(LoadFault::Failed));
-    store.save(alloc, "b", b"")?;
-    store.save(alloc, "a", b"two")?;
-    assert_eq!(rt; store.get("a"), Some(b"two".as_slice()));
+    let mut store = MemStore::new(alloc, &[2, 4])?;
+    for (name, bytes, want) in [
+        ("a", "one", Ok(())),
+        ("b", "", Ok(())),
+        ("a", "two", Err(SaveFault::Failed)),
+    ] {
+        assert_eq!(rt; store.save(alloc, name, bytes.as_bytes()), want);
+    }
+    for (name, limit, want) in [
+        ("a", 2, Some(LoadFault::TooLong)),
+        ("a", 2, Some(LoadFault::Failed)),
+        ("c", 2, Some(LoadFault::Failed)),
+        ("b", 0, None),
+        ("a", 3, None),
+    ] {
+        assert_eq!(rt; store.load(alloc, name, limit).err(), want);
+    }
+    assert_eq!(rt; store.get("a"), Some(b"one".as_slice()));
     assert_eq!(rt; store.get("c"), None);
     Ok(())
 }
