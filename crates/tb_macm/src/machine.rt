@@ -95,7 +95,7 @@ impl<'a> MacMachine<'a> {
         ensures later { O.faults out.old ≤ O.faults out.new }
         ensures input { input.new ≡ input.old }
     {
-        for made in 0..steps {
+        for _made in 0..steps {
             match self.step(input, out) {
                 Step::Went(_event) => {}
                 Step::Stopped(stop) => return stop,
