@@ -18,7 +18,8 @@ pub fn runs_compute()
 
 /// A step of the machine emits at most one event, behind those before it.
 pub fn events_come_in_order()
-    ensures law { (code : List Instr) (places : List PlaceEntry) (heap : ℕ) → EmitsInOrder (mac_machine code places heap) }
+    ensures law { (code : List Instr) (places : List PlaceEntry) (heap : ℕ)
+        → EmitsInOrder (mac_machine code places heap) }
 {}
 
 /// Fixnums, characters and specials are read back from their 32 bits.
