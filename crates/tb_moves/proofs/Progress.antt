@@ -1,10 +1,10 @@
 -- How far the moves have come: what holds while they are put in order.
-use Rattle.std.proofs.Common.{◌≡◌, ◌≢◌, ℕ, zero, suc, ◌+◌, ◌*◌, ◌<◌, ◌≤◌, Bool, true, false, cond, List, [], ◌∷◌, ◌++◌, length, get_or, take, drop, ◌⊎◌, inl, inr, refl, sym, ap, subst, arith, ◌∙◌, length-append}
-use Rattle.std.specs.Prelude.{All, AllPairs, remove}
+use Rattle.std.proofs.Common.{◌≡◌, ◌≢◌, ℕ, zero, suc, ◌+◌, ◌*◌, ◌<◌, ◌≤◌, Bool, true, false, cond, List, [], ◌∷◌, ◌++◌, length, get_or, take, drop, inl, inr, refl, sym, ap, arith, ◌∙◌, length-append}
+use Rattle.std.specs.Prelude.{All, AllPairs, remove, Option, Some, None, MatchOption, unwrap_or}
 use Rattle.std.proofs.Math.Seq.{drop-cons}
 use Rattle.std.proofs.lemmas.List.{take-append-drop}
 use Rattle.tb_moves.specs.declared.loc.Loc.{Loc}
-use Rattle.tb_moves.specs.ParallelMoves.{same_loc, run_moves, IsParallel, IsTaken}
+use Rattle.tb_moves.specs.ParallelMoves.{same_loc, IsParallel, IsTaken}
 use Rattle.tb_moves.proofs.Run.{same_loc-refl, same_loc-differs, one_or_two, held, held-target, held-other, run_moves-held}
 use Rattle.tb_moves.proofs.Lists.{NotIn, Distinct, targets, Distinct-pull, NotIn-pull, NotIn-put_back, NotIn-from, NotIn-at, Distinct-from}
 
@@ -227,3 +227,35 @@ finished V moves scratch origin out pairs free u =
       moved = λ k d p content. run_moves-held out content (get_or moves k d).0 ∙ ap content (u.done (get_or moves k d).0 (free k d p).0 tt ∙ wanted-target moves (Distinct-from moves pairs) k d p);
       kept = λ l s h content. run_moves-held out content l ∙ ap content (u.done l s tt ∙ wanted-other l moves (NotIn-from l moves (λ k d p e. h k d p (sym e))));
     }
+
+-- the same state, named otherwise
+pub same_state : (moves : List (Loc × Loc)) (scratch : Loc) {o p : Loc} {path rest : List Loc} {pending left out more : List (Loc × Loc)} → o ≡ p → path ≡ rest → pending ≡ left → out ≡ more →
+    IsUnderWay moves scratch p rest left more → IsUnderWay moves scratch o path pending out
+same_state moves scratch e f g h u = rw (e, f, g, h) u
+
+pub nil-from : (ms : List (Loc × Loc)) → (0 < length ms → false ≡ true) → ms ≡ []
+nil-from [] h = refl
+nil-from (m ∷ ms) h = let e = h (omega arith) in cc
+
+-- the top is moved, after a save where the path reads its own top
+pub moved_on : (moves : List (Loc × Loc)) (scratch origin top source : Loc) (rest : List Loc) (pending out saved_out : List (Loc × Loc)) →
+    (origin ≡ top → (source ≡ scratch) × (saved_out ≡ out ++ (scratch, top) ∷ [])) → (origin ≢ top → (source ≡ origin) × (saved_out ≡ out)) → All (λ m. m.1 ≢ top) pending →
+    IsUnderWay moves scratch origin (top ∷ rest) pending out → IsUnderWay moves scratch source rest pending (saved_out ++ (top, source_of source rest) ∷ [])
+moved_on moves scratch origin top source rest pending out saved_out s t unread u =
+    elim (one_or_two origin top) [
+      | inl e ↦
+          let k = s e in
+          rw (k.0, k.1) (moved_top moves scratch scratch top rest pending (out ++ (scratch, top) ∷ []) u.scratch_free.0 unread
+          (saved moves scratch top rest pending out (same_state moves scratch (sym e) refl refl refl u)))
+      | inr n ↦ let k = t n in rw (k.0, k.1) (moved_top moves scratch origin top rest pending out n unread u)
+    ]
+
+-- what a pop leaves
+pub popped_rest : (r : Option Loc) (path rest left : List Loc) (top : Loc) → path ≡ top ∷ rest → MatchOption r ((path ≡ []) × (left ≡ [])) (λ t. path ≡ t ∷ left) → left ≡ rest
+popped_rest None path rest left top e h = let f = h.0 in cc
+popped_rest (Some t) path rest left top e h = cc
+
+-- the next one down, or the origin
+pub unwrap_or-top : (r : Option Loc) (rest : List Loc) (origin : Loc) → MatchOption r (rest ≡ []) (λ t. (more : List Loc) × (rest ≡ t ∷ more)) → unwrap_or r origin ≡ source_of origin rest
+unwrap_or-top None rest origin h = rw h
+unwrap_or-top (Some t) rest origin h = rw h.1

@@ -1,5 +1,5 @@
 -- What moves do to the contents of locations, and parallel assignment.
-use Rattle.std.specs.Prelude.{◌≡◌, ◌≢◌, ℕ, Bool, false, ◌==◌, if◌then◌else◌, List, [], ◌∷◌, ◌++◌, All}
+use Rattle.std.specs.Prelude.{◌≡◌, ◌≢◌, Bool, false, ◌==◌, if◌then◌else◌, List, [], ◌∷◌, ◌++◌, All}
 use Rattle.tb_moves.specs.declared.loc.Loc.{Loc}
 use Rattle.tb_moves.specs.declared.loc.Loc.TheVariants.{Reg, Slot}
 

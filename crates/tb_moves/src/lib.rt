@@ -9,3 +9,6 @@ mod path;
 pub use list::MoveList;
 pub use loc::Loc;
 pub use order::order_moves;
+
+#[cfg(test)]
+mod tests;

@@ -31,10 +31,11 @@ pub fn order_moves(moves: &[(Loc, Loc)], scratch: Loc, out: &mut MoveList)
             let Some((target, source)) = pending.pop() else {
                 return;
             };
-            if target != source {
-                path.push(target);
-                origin = source;
+            if target == source {
+                continue;
             }
+            path.push(target);
+            origin = source;
             continue;
         };
         if let Some(reader) = take_reader(&mut pending, top) {
