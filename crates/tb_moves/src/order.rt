@@ -23,7 +23,8 @@ pub fn order_moves(moves: &[(Loc, Loc)], scratch: Loc, out: &mut MoveList)
 {
     out.clear();
     let mut pending = pending_of(moves);
-    // Targets, each of them the source of the next one up, and the source of the lowest.
+    // The path holds targets, each of them the source of the one above it; the source of the lowest is the origin.
+    // The top is moved once no pending move reads it, so a path that comes back to its origin needs one save.
     let mut path = Path::new();
     let mut origin = scratch;
     loop {
@@ -62,6 +63,7 @@ fn save_if_read(origin: Loc, top: Loc, scratch: Loc, out: &mut MoveList) -> Loc
     }
 }
 
+// All of the moves.
 fn pending_of(moves: &[(Loc, Loc)]) -> Pending
     requires { length moves.now ≤ 16 }
     ensures { result.items ≡ moves.now }
@@ -73,6 +75,7 @@ fn pending_of(moves: &[(Loc, Loc)]) -> Pending
     pending
 }
 
+// Takes a move from this source out, where there is one, and tells its target.
 fn take_reader(pending: &mut Pending, target: Loc) -> Option<Loc>
     ensures none { IfNone result (pending.new.items ≡ pending.old.items) }
     ensures unread { IfNone result (All (λ m. m.1 ≢ target) pending.old.items) }
@@ -83,6 +86,7 @@ fn take_reader(pending: &mut Pending, target: Loc) -> Option<Loc>
     Some(reader)
 }
 
+// The index of a move from this source.
 fn reader_of(pending: &[(Loc, Loc)], target: Loc) -> Option<usize>
     ensures none { IfNone result (All (λ m. m.1 ≢ target) pending.now) }
     ensures some { IfSome result (λ i. (i < length pending.now)
