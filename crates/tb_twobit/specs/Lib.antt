@@ -5,3 +5,5 @@ pub mod Compiled
 pub mod SmallForms
 pub mod SmallGrammar
 pub mod Bits
+pub mod SmallReading
+pub mod SmallCursors

@@ -2,6 +2,7 @@
 #![tactic(auto)]
 
 mod generator;
+mod small_reader;
 mod words;
 
 pub use words::{Command, asked_for};

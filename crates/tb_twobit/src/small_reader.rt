@@ -1,0 +1,185 @@
+ghost use Rattle.std.specs.Prelude.{◌≡◌, ℕ, ◌+◌, ◌*◌, ◌≤◌, ◌<◌, ◌^◌, length, map, option_map, IfOk, codes, vec_len};
+ghost use Rattle.std.specs.List.{prefix_len};
+ghost use Rattle.tb_core.specs.Tree.{Trees};
+ghost use Rattle.tb_core.specs.View.{view, trees};
+ghost use Rattle.tb_twobit.specs.SmallForms.{FormsFrom, write_tree};
+ghost use Rattle.tb_twobit.specs.SmallGrammar.{IsAccepted, is_blank};
+ghost use Rattle.tb_twobit.specs.SmallGrammar as grammar;
+ghost use Rattle.tb_twobit.specs.SmallReading.{OnlyReadAs};
+ghost use Rattle.tb_twobit.specs.SmallReading as reading;
+ghost use Rattle.tb_twobit.specs.SmallCursors.{left_of, character_of, form_of};
+
+mod cursor;
+
+use cursor::Cursor;
+use std::alloc::{AllocError, AllocFailed, Global};
+use tb_core::{Core, Expr};
+use tb_prim::{Const, Place, Prim, Row};
+
+/// Why a text is not read.
+#[derive(Clone, Copy, Debug, PartialEq, Eq)]
+pub enum SmallRefusal {
+    /// It is not a text of the small grammar.
+    NotBuilt,
+    NoMemory,
+}
+
+impl From<AllocError> for SmallRefusal {
+    ghost use Rattle.std.specs.Prelude.{◌≡◌};
+    ghost use Rattle.tb_twobit.specs.declared.small_reader.SmallRefusal.{SmallRefusal};
+
+    ghost from_gives = { λ _ refusal. refusal ≡ SmallRefusal.NoMemory };
+
+    fn from(_: AllocError) -> SmallRefusal {
+        SmallRefusal::NoMemory
+    }
+}
+
+impl<T: Drop> From<AllocFailed<T>> for SmallRefusal {
+    ghost use Rattle.std.specs.Prelude.{◌≡◌};
+    ghost use Rattle.tb_twobit.specs.declared.small_reader.SmallRefusal.{SmallRefusal};
+
+    ghost from_gives = { λ _ refusal. refusal ≡ SmallRefusal.NoMemory };
+
+    fn from(_: AllocFailed<T>) -> SmallRefusal {
+        SmallRefusal::NoMemory
+    }
+}
+
+/// A character, and what is left behind it.
+#[derive(Clone, Copy)]
+struct Character<'a> {
+    byte: u8,
+    behind: Cursor<'a>,
+}
+
+/// A form `(write-char c)`: the place of its character, the character, and what is left behind the form.
+#[derive(Clone, Copy)]
+struct Form<'a> {
+    operand: Place,
+    byte: u8,
+    behind: Cursor<'a>,
+}
+
+/// The most forms that a text has.
+const MOST_FORMS: usize = 1000;
+
+fn is_blank(byte: u8) -> bool
+    ensures { result ≡ grammar.is_blank byte }
+{
+    byte == b' ' || byte == b'\t' || byte == b'\n'
+}
+
+/// The place behind a byte at the place.
+fn behind(place: Place, byte: u8) -> Place
+    requires { place.line + place.column < 4294967295 }
+    ensures { result ≡ grammar.behind place byte }
+{
+    if byte == b'\n' {
+        Place {
+            library: place.library,
+            line: place.line + 1,
+            column: 1,
+        }
+    } else {
+        Place {
+            library: place.library,
+            line: place.line,
+            column: place.column + 1,
+        }
+    }
+}
+
+/// What is left behind so many bytes.
+fn behind_first(cursor: Cursor, count: usize) -> Cursor
+    requires { count ≤ length cursor.rest.now }
+    ensures { left_of result ≡ reading.behind_first count (left_of cursor.entry) }
+{
+    let (passed, rest) = cursor.rest.split_at(count);
+    let mut place = cursor.place;
+    for byte in passed {
+        place = behind(place, *byte);
+    }
+    Cursor { place, rest }
+}
+
+fn blanks(cursor: Cursor) -> usize
+    ensures { result ≡ prefix_len grammar.is_blank cursor.entry.rest.now }
+{
+    cursor
+        .rest
+        .iter()
+        .take_while(|byte| is_blank(**byte))
+        .count()
+}
+
+fn behind_blanks(cursor: Cursor) -> Cursor
+    ensures { left_of result ≡ reading.behind_blanks (left_of cursor.entry) }
+{
+    behind_first(cursor, blanks(cursor))
+}
+
+/// What is left behind the word, where it stands there.
+fn behind_word<'a>(cursor: Cursor<'a>, word: &[u8]) -> Option<Cursor<'a>>
+    ensures { option_map left_of result ≡ reading.behind_word word.now (left_of cursor.entry) }
+{
+    if cursor.rest.starts_with(word) {
+        Some(behind_first(cursor, word.len()))
+    } else {
+        None
+    }
+}
+
+fn read_byte(cursor: Cursor) -> Option<Character>
+    ensures { option_map character_of result ≡ reading.byte_at (left_of cursor.entry) }
+{
+    match cursor.rest {
+        [] => None,
+        [byte, ..] => Some(Character {
+            byte: *byte,
+            behind: behind_first(cursor, 1),
+        }),
+    }
+}
+
+/// The character that stands there, as `#\` and a byte or a name.
+fn read_character(cursor: Cursor) -> Option<Character>
+    ensures { option_map character_of result ≡ reading.character_at (left_of cursor.entry) }
+{
+    if let Some(behind) = behind_word(cursor, b"#\\space") {
+        return Some(Character { byte: b' ', behind });
+    }
+    if let Some(behind) = behind_word(cursor, b"#\\newline") {
+        return Some(Character {
+            byte: b'\n',
+            behind,
+        });
+    }
+    read_byte(behind_word(cursor, b"#\\")?)
+}
+
+/// The end of a form, from its character on.
+fn read_operand(cursor: Cursor) -> Option<Form>
+    ensures { option_map form_of result ≡ reading.operand_at (left_of cursor.entry) }
+{
+    let character = read_character(cursor)?;
+    let behind = behind_word(behind_blanks(character.behind), b")")?;
+    Some(Form {
+        operand: cursor.place,
+        byte: character.byte,
+        behind,
+    })
+}
+
+/// The form that stands there.
+fn read_form(cursor: Cursor) -> Option<Form>
+    ensures { option_map form_of result ≡ reading.form_at (left_of cursor.entry) }
+{
+    let inside = behind_blanks(behind_word(cursor, b"(")?);
+    let between = behind_word(inside, b"write-char")?;
+    if blanks(between) == 0 {
+        None
+    } else {
+        read_operand(behind_blanks(between))
+    }
+}
