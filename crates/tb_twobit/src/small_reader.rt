@@ -1,4 +1,4 @@
-ghost use Rattle.std.specs.Prelude.{◌≡◌, ℕ, ◌+◌, ◌*◌, ◌≤◌, ◌<◌, ◌^◌, length, map, option_map, IfOk, codes, vec_len};
+ghost use Rattle.std.specs.Prelude.{◌≡◌, ◌≢◌, ℕ, ◌+◌, ◌*◌, ◌≤◌, ◌<◌, ◌^◌, length, map, option_map, IfOk, codes, vec_len};
 ghost use Rattle.std.specs.List.{prefix_len};
 ghost use Rattle.tb_core.specs.Tree.{Trees};
 ghost use Rattle.tb_core.specs.View.{view, trees};
@@ -113,12 +113,14 @@ fn blanks(cursor: Cursor) -> usize
         .count()
 }
 
+#[tactic(auto, unfolding(crate::specs::SmallReading::behind_blanks))]
 fn behind_blanks(cursor: Cursor) -> Cursor
     ensures { left_of result ≡ reading.behind_blanks (left_of cursor.entry) }
 {
     behind_first(cursor, blanks(cursor))
 }
 
+#[tactic(auto, unfolding(crate::specs::SmallReading::behind_word))]
 /// What is left behind the word, where it stands there.
 fn behind_word<'a>(cursor: Cursor<'a>, word: &[u8]) -> Option<Cursor<'a>>
     ensures { option_map left_of result ≡ reading.behind_word word.now (left_of cursor.entry) }
@@ -130,6 +132,7 @@ fn behind_word<'a>(cursor: Cursor<'a>, word: &[u8]) -> Option<Cursor<'a>>
     }
 }
 
+#[tactic(auto, unfolding(crate::specs::SmallReading::byte_at))]
 fn read_byte(cursor: Cursor) -> Option<Character>
     ensures { option_map character_of result ≡ reading.byte_at (left_of cursor.entry) }
 {
@@ -142,6 +145,7 @@ fn read_byte(cursor: Cursor) -> Option<Character>
     }
 }
 
+#[tactic(auto, unfolding(crate::specs::SmallReading::character_at))]
 /// The character that stands there, as `#\` and a byte or a name.
 fn read_character(cursor: Cursor) -> Option<Character>
     ensures { option_map character_of result ≡ reading.character_at (left_of cursor.entry) }
@@ -158,6 +162,7 @@ fn read_character(cursor: Cursor) -> Option<Character>
     read_byte(behind_word(cursor, b"#\\")?)
 }
 
+#[tactic(auto, unfolding(crate::specs::SmallReading::operand_at))]
 /// The end of a form, from its character on.
 fn read_operand(cursor: Cursor) -> Option<Form>
     ensures { option_map form_of result ≡ reading.operand_at (left_of cursor.entry) }
@@ -171,6 +176,7 @@ fn read_operand(cursor: Cursor) -> Option<Form>
     })
 }
 
+#[tactic(auto, unfolding(crate::specs::SmallReading::form_at))]
 /// The form that stands there.
 fn read_form(cursor: Cursor) -> Option<Form>
     ensures { option_map form_of result ≡ reading.form_at (left_of cursor.entry) }
@@ -181,5 +187,58 @@ fn read_form(cursor: Cursor) -> Option<Form>
         None
     } else {
         read_operand(behind_blanks(between))
+    }
+}
+
+/// The expression of a form at the place, with the number and the next one.
+fn write_form(alloc: Global, place: Place, site: u32, operand: Place, byte: u8) -> Result<Expr, SmallRefusal>
+    requires { site < 2000 }
+    ensures built { IfOk result (λ form. view form ≡ write_tree place operand site byte) }
+    ensures only { result ≢ Err SmallRefusal.NotBuilt }
+{
+    let mut operands = Vec::new(alloc);
+    operands.push(Expr {
+        place: operand,
+        site: site + 1,
+        core: Core::Quote(Const::Char(byte)),
+    })?;
+    Ok(Expr {
+        place,
+        site,
+        core: Core::Prim(Prim::WriteChar, Row::from_vec(operands)),
+    })
+}
+
+/// The forms of a text of the small grammar, with at most 1,000 of them. Whether memory runs out is left open.
+pub fn read_small(alloc: Global, text: &[u8]) -> Result<Vec<Expr>, SmallRefusal>
+    requires { length text.now ≤ 4194304 }
+    ensures accepted { IfOk result (λ forms. IsAccepted text.now (trees (map view forms.items))) }
+    ensures forms { IfOk result (λ forms. FormsFrom 0 (trees (map view forms.items))) }
+    ensures few { IfOk result (λ forms. vec_len forms ≤ 1000) }
+    ensures only { (es : Trees) → IsAccepted text.now es → OnlyReadAs result es }
+{
+    let mut forms = Vec::new(alloc);
+    let mut cursor = Cursor {
+        place: Place {
+            library: false,
+            line: 1,
+            column: 1,
+        },
+        rest: text,
+    };
+    loop {
+        let start = behind_blanks(cursor);
+        if start.rest.is_empty() {
+            return Ok(forms);
+        }
+        if forms.len() == MOST_FORMS {
+            return Err(SmallRefusal::NotBuilt);
+        }
+        let Some(form) = read_form(start) else {
+            return Err(SmallRefusal::NotBuilt);
+        };
+        let site = 2 * forms.len() as u32;
+        forms.push(write_form(alloc, start.place, site, form.operand, form.byte)?)?;
+        cursor = form.behind;
     }
 }
