@@ -3,7 +3,7 @@ ghost use Rattle.std.specs.List.{prefix_len};
 ghost use Rattle.tb_core.specs.Tree.{Trees};
 ghost use Rattle.tb_core.specs.View.{view, trees};
 ghost use Rattle.tb_twobit.specs.SmallForms.{FormsFrom, write_tree};
-ghost use Rattle.tb_twobit.specs.SmallGrammar.{IsAccepted, is_blank};
+ghost use Rattle.tb_twobit.specs.SmallGrammar.{IsAccepted, text_start};
 ghost use Rattle.tb_twobit.specs.SmallGrammar as grammar;
 ghost use Rattle.tb_twobit.specs.SmallReading.{OnlyReadAs};
 ghost use Rattle.tb_twobit.specs.SmallReading as reading;
@@ -63,6 +63,21 @@ struct Form<'a> {
 
 /// The most forms that a text has.
 const MOST_FORMS: usize = 1000;
+
+/// All of a text.
+fn start_of(text: &[u8]) -> Cursor
+    requires { length text.now ≤ 4194304 }
+    ensures { left_of result ≡ record { place = text_start; rest = text.now } }
+{
+    Cursor {
+        place: Place {
+            library: false,
+            line: 1,
+            column: 1,
+        },
+        rest: text,
+    }
+}
 
 fn is_blank(byte: u8) -> bool
     ensures { result ≡ grammar.is_blank byte }
@@ -218,14 +233,7 @@ pub fn read_small(alloc: Global, text: &[u8]) -> Result<Vec<Expr>, SmallRefusal>
     ensures only { (es : Trees) → IsAccepted text.now es → OnlyReadAs result es }
 {
     let mut forms = Vec::new(alloc);
-    let mut cursor = Cursor {
-        place: Place {
-            library: false,
-            line: 1,
-            column: 1,
-        },
-        rest: text,
-    };
+    let mut cursor = start_of(text);
     loop {
         let start = behind_blanks(cursor);
         if start.rest.is_empty() {

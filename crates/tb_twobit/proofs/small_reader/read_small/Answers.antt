@@ -1,0 +1,1 @@
+use Rattle.tb_twobit.proofs.small_reader.read_small.Goals as goal
