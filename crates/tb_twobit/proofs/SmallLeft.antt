@@ -29,7 +29,7 @@ over_more {x} {y} {z} {xs} {ys} h g = record {
   place = g.place ∙ (ap (λ p. behind_all p ys) h.place ∙ sym (behind_all-append x.place xs ys));
 }
 
-over_first : (n : ℕ) (x : Left) → Over x (take n x.rest) (behind_first n x)
+pub over_first : (n : ℕ) (x : Left) → Over x (take n x.rest) (behind_first n x)
 over_first n x = record { rest = sym (take-append-drop n x.rest); place = refl }
 
 first_passed : (p : Place) (bs ys : List ℕ) → behind_first (length bs) (left p (bs ++ ys)) ≡ left (behind_all p bs) ys
@@ -54,7 +54,7 @@ past_step : (b c : Bool) (m n : ℕ) → (b && c) ≡ true → (c ≡ true → m
 past_step false c m n h e = cc
 past_step true c m n h e = let same = e h in omega arith
 
-prefix_past : (p : ℕ → Bool) (xs ys : List ℕ) → list_all p xs ≡ true → prefix_len p ys ≡ 0 → prefix_len p (xs ++ ys) ≡ length xs
+pub prefix_past : (p : ℕ → Bool) (xs ys : List ℕ) → list_all p xs ≡ true → prefix_len p ys ≡ 0 → prefix_len p (xs ++ ys) ≡ length xs
 prefix_past p [] ys h e = e
 prefix_past p (x ∷ xs) ys h e = past_step (p x) (list_all p xs) (prefix_len p (xs ++ ys)) (length xs) h (λ all. prefix_past p xs ys all e)
 
