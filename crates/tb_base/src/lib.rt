@@ -20,3 +20,6 @@ pub use outside::{Failed, LoadFault, SaveFault, Sink, Source, Store};
 pub use puts::put_all;
 pub use real_sink::RealSink;
 pub use real_store::RealStore;
+
+#[cfg(test)]
+mod tests;

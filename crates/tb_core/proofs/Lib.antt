@@ -6,3 +6,7 @@ pub mod Windows
 pub mod Members
 pub mod Numbers
 pub mod Stores
+pub mod Lines
+pub mod Fits
+pub mod Kept
+pub mod NeverLost

@@ -1,5 +1,5 @@
 -- Elements of lists that are joined, and tests of them.
-use Rattle.std.proofs.Common.{◌≡◌, refl, sym, ap, ◌∙◌, subst, ℕ, zero, suc, ◌+◌, ◌<◌, ◌⊎◌, inl, inr, ⊎_elim, arith, Bool, true, false, cond, not, ◌==◌, ◌||◌, List, [], ◌∷◌, ◌++◌, filter, length, Option, Some, None, slice_get, eqb-true, eq-eqb}
+use Rattle.std.proofs.Common.{◌≡◌, refl, sym, ap, ◌∙◌, subst, ℕ, ◌⊎◌, inl, inr, ⊎_elim, Bool, true, false, cond, not, ◌==◌, ◌||◌, List, [], ◌∷◌, ◌++◌, eqb-true, eq-eqb}
 use Rattle.std.proofs.lemmas.Bool.{or_cases}
 use Rattle.tb_semantics.specs.Graph.{IsIn}
 use Rattle.tb_core.specs.FreeVariables.{is_in, without}
@@ -42,3 +42,12 @@ in-without xs (z ∷ ys) y (inr i) h =
 
 pub append-same : {X : Type 0} (xs ys vs ws : List X) → xs ≡ vs → ys ≡ ws → xs ++ ys ≡ vs ++ ws
 append-same xs ys vs ws p q = ap (λ zs. zs ++ ys) p ∙ ap (λ zs. vs ++ zs) q
+
+pub without-sub : (xs ys : List ℕ) (y : ℕ) → IsIn y (without xs ys) → IsIn y ys
+without-sub xs [] y i = absurd i
+without-sub xs (z ∷ ys) y i =
+    (elim (is_in xs z) as (λ b. IsIn y (cond (not b) (z ∷ without xs ys) (without xs ys)) → IsIn y (z ∷ ys)) [
+      | true ↦ λ j. inr (without-sub xs ys y j)
+      | false ↦ λ j. ⊎_elim inl (λ k. inr (without-sub xs ys y k)) j
+    ])
+    i

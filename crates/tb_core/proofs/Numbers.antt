@@ -1,13 +1,13 @@
 -- What the functions on a program's lambda expressions by their numbers give, where the rules are kept: those
 -- inside a lambda expression have greater numbers.
-use Rattle.std.proofs.Common.{◌≡◌, refl, sym, ap, ◌∙◌, subst, ℕ, zero, suc, ◌+◌, ◌<◌, ◌⊎◌, inl, inr, ⊎_elim, arith, Bool, true, false, cond, ◌==◌, List, [], ◌∷◌, ◌++◌, length, map, Option, Some, None, slice_get, eqb-true, eq-eqb}
+use Rattle.std.proofs.Common.{◌≡◌, refl, sym, ap, ◌∙◌, subst, ℕ, zero, suc, ◌+◌, ◌<◌, inl, inr, ⊎_elim, arith, Bool, cond, ◌==◌, List, [], ◌∷◌, ◌++◌, length, map, Some, slice_get, eq-eqb}
 use Rattle.std.proofs.lemmas.Bool.{ne_eqb}
 use Rattle.std.proofs.lemmas.Option.{same_Some}
 use Rattle.tb_prim.specs.declared.place.Place.{Place}
 use Rattle.tb_semantics.specs.Graph.{IsIn, IsApart}
 use Rattle.tb_core.specs.Tree.{Tree, Node, Form, Quote, Local, Global, Lambda, If, SetLocal, SetGlobal, DefGlobal, Let, Letrec, Seq, Call, PrimUse, Apply, Trees, none, more, LambdaTree, ProgramTree, parameters}
-use Rattle.tb_core.specs.FreeVariables.{is_in, is_assigned, without, of_lambdas, free, free_form, free_all, lambda_free, lambdas_free, inner_free}
-use Rattle.tb_core.specs.OperandOrder.{Line, operands, has_order, line_of, own_line, lines, lines_form, lines_all, lines_of_lambdas, lambdas_lines, order_of, line_at, HasLine}
+use Rattle.tb_core.specs.FreeVariables.{is_assigned, without, of_lambdas, free, free_form, free_all, lambda_free, lambdas_free, inner_free}
+use Rattle.tb_core.specs.OperandOrder.{Line, operands, line_of, own_line, lines, lines_form, lines_all, lines_of_lambdas, lambdas_lines, order_of, line_at, HasLine}
 use Rattle.tb_core.specs.Rules.{Every, Each, EachForm, EachAll, InnerAreGreater, KeepsRules, inner, inner_form, inner_all, inner_of_lambdas, standing}
 use Rattle.tb_core.proofs.Members.{in-left, in-right, in-either, in-tested, append-same}
 
@@ -119,12 +119,12 @@ free_at (m ∷ ms) first zero n l q h e =
     at_first first n _ _ (omega arith)
     ∙ ap (λ v. lambda_free (lambdas_free ms (suc first)) v) t
     ∙ ap (without (parameters l)) (free_same (lambdas_free ms (suc first)) (lambdas_free (m ∷ ms) first) l.body
-      (λ v i. let j = greater_at (m ∷ ms) first zero l h e v i in sym (past_first first v _ _ (omega arith))))
+    (λ v i. let j = greater_at (m ∷ ms) first zero l h e v i in sym (past_first first v _ _ (omega arith))))
 free_at (m ∷ ms) first (suc k) n l q h e =
     past_first first n _ _ (omega arith)
     ∙ free_at ms (suc first) k n l (omega arith) h.1 e
     ∙ ap (without (parameters l)) (free_same (lambdas_free ms (suc first)) (lambdas_free (m ∷ ms) first) l.body
-      (λ v i. let j = greater_at (m ∷ ms) first (suc k) l h e v i in sym (past_first first v _ _ (omega arith))))
+    (λ v i. let j = greater_at (m ∷ ms) first (suc k) l h e v i in sym (past_first first v _ _ (omega arith))))
 
 -- the free variables of a lambda expression are those of its body but its parameters
 pub free-of-lambda : (p : ProgramTree) (n : ℕ) (l : LambdaTree) → InnerAreGreater 0 p.lambdas → slice_get p.lambdas n ≡ Some l → inner_free p n ≡ lambda_free (inner_free p) l
@@ -244,10 +244,11 @@ module _ (p : ProgramTree) (apart : IsApart (map (λ (l : Line). l.site) (order_
     form_found (Local x) h = tt
     form_found (Global v) h = tt
     form_found (Lambda l) h = tt
-    form_found (If b c d) h =
-        (each_found b (λ n i. h n (in-left n _ _ i)),
-         each_found c (λ n i. h n (in-right n (lines (is_assigned p) (by_number p) b) _ (in-left n _ _ i))),
-         each_found d (λ n i. h n (in-right n (lines (is_assigned p) (by_number p) b) _ (in-right n (lines (is_assigned p) (by_number p) c) _ i))))
+    form_found (If b c d) h = (
+      each_found b (λ n i. h n (in-left n _ _ i)),
+      each_found c (λ n i. h n (in-right n (lines (is_assigned p) (by_number p) b) _ (in-left n _ _ i))),
+      each_found d (λ n i. h n (in-right n (lines (is_assigned p) (by_number p) b) _ (in-right n (lines (is_assigned p) (by_number p) c) _ i))),
+    )
     form_found (SetLocal x e) h = each_found e h
     form_found (SetGlobal v e) h = each_found e h
     form_found (DefGlobal v e) h = each_found e h

@@ -1,13 +1,13 @@
 -- Variables that an environment finds in a store, and what stores keep of one another.
-use Rattle.std.proofs.Common.{◌≡◌, refl, sym, ap, ◌∙◌, subst, ℕ, zero, suc, ◌+◌, ◌<◌, ◌≤◌, ◌⊎◌, inl, inr, ⊎_elim, arith, Bool, true, false, cond, ◌==◌, ◌||◌, List, [], ◌∷◌, ◌++◌, length, map, Option, Some, None, slice_get, slice_set, eqb-true, eq-eqb, append_assoc}
+use Rattle.std.proofs.Common.{◌≡◌, refl, sym, ap, ◌∙◌, ℕ, zero, suc, ◌+◌, ◌<◌, ◌≤◌, ◌⊎◌, inl, inr, ⊎_elim, arith, Bool, true, false, cond, ◌==◌, ◌||◌, List, [], ◌∷◌, ◌++◌, length, Some, slice_get, slice_set, eqb-true}
 use Rattle.std.proofs.lemmas.Bool.{eqb-false, cases_Bool}
 use Rattle.std.proofs.lemmas.Option.{same_Some}
 use Rattle.tb_semantics.specs.Graph.{IsIn}
 use Rattle.tb_core.specs.FreeVariables.{is_in}
-use Rattle.tb_core.specs.Store.{Value, At, Nil, Env, Empty, Bind, Item, Var, Pair, Vec, Str, Sym, Clo, lookup, cut, bind_from, flat_size}
+use Rattle.tb_core.specs.Store.{Value, At, Env, Item, Var, Pair, Vec, Str, Clo, lookup, cut, bind_from, flat_size}
 use Rattle.tb_core.specs.Space.{made}
-use Rattle.tb_core.specs.Reference.{vars, located, list_items, list_value}
-use Rattle.tb_core.proofs.Members.{in-left, in-right, in-either, in-tested, tested-in}
+use Rattle.tb_core.specs.Reference.{vars, located, list_items}
+use Rattle.tb_core.proofs.Members.{in-tested, tested-in}
 use Rattle.tb_core.proofs.Cuts.{cut-kept}
 
 -- a variable stands at the location
@@ -124,13 +124,13 @@ kind_new _ _ m r (str_kind bs cs q) e = cc
 pub extends-set : (st : List Item) (l : ℕ) (old i : Item) → slice_get st l ≡ Some old → SameKind old i → Extends st (slice_set st l i)
 extends-set st l old i e k = record {
   vars_stay = λ a h. ⊎_elim
-    (λ q. let old_var = same_Some old (Var h.0) (sym e ∙ ap (slice_get st) (eqb-true l a q) ∙ h.1) in let w = kind_var old i h.0 k old_var in (w.0, ap (slice_get (slice_set st l i)) (sym (eqb-true l a q)) ∙ set-same st l old i e ∙ ap Some w.1))
-    (λ q. (h.0, set-other st l a i (eqb-false l a q) ∙ h.1))
-    (cases_Bool (l == a));
+      (λ q. let old_var = same_Some old (Var h.0) (sym e ∙ ap (slice_get st) (eqb-true l a q) ∙ h.1) in let w = kind_var old i h.0 k old_var in (w.0, ap (slice_get (slice_set st l i)) (sym (eqb-true l a q)) ∙ set-same st l old i e ∙ ap Some w.1))
+      (λ q. (h.0, set-other st l a i (eqb-false l a q) ∙ h.1))
+      (cases_Bool (l == a));
   closures_stay = λ a m r h. ⊎_elim
-    (λ q. absurd (kind_closure old i m r k (same_Some old (Clo m r) (sym e ∙ ap (slice_get st) (eqb-true l a q) ∙ h))))
-    (λ q. set-other st l a i (eqb-false l a q) ∙ h)
-    (cases_Bool (l == a));
+      (λ q. absurd (kind_closure old i m r k (same_Some old (Clo m r) (sym e ∙ ap (slice_get st) (eqb-true l a q) ∙ h))))
+      (λ q. set-other st l a i (eqb-false l a q) ∙ h)
+      (cases_Bool (l == a));
   grows = let s = made_set st l old i e (kind_size old i k) in omega arith;
 }
 
@@ -149,7 +149,7 @@ bound-found (x ∷ xs) n r y j =
     ⊎_elim
     (λ q. (0, omega arith, ap (λ b. cond b (Some n) (lookup (bind_from xs (suc n) r) y)) q ∙ ap Some (let e : n ≡ n + 0 = omega arith in e)))
     (λ q. let k = ⊎_elim (λ e. absurd (eqb-false x y q e)) (λ i. i) j in let f = bound-found xs (suc n) r y k in
-      (suc f.0, omega (arith, f.1), ap (λ b. cond b (Some n) (lookup (bind_from xs (suc n) r) y)) q ∙ f.2 ∙ ap Some (let e : suc n + f.0 ≡ n + suc f.0 = omega arith in e)))
+    (suc f.0, omega (arith, f.1), ap (λ b. cond b (Some n) (lookup (bind_from xs (suc n) r) y)) q ∙ f.2 ∙ ap Some (let e : suc n + f.0 ≡ n + suc f.0 = omega arith in e)))
     (cases_Bool (x == y))
 
 pub bound-other : (xs : List ℕ) (n : ℕ) (r : Env) (y : ℕ) → is_in xs y ≡ false → lookup (bind_from xs n r) y ≡ lookup r y

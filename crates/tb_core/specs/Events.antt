@@ -49,3 +49,9 @@ IsFinal (Lost c es) = Unit {0}
 pub record ComesToCall (step : State → State) (s : State) : Type 0 where
   pub steps : ℕ
   pub reached : IsFinal (run step steps s) ⊎ (calls (events_of s) < calls (events_of (run step steps s)))
+
+-- a run has a next step, or has stopped
+abbrev pub IsNotLost : State → Type 0
+IsNotLost (Running c es) = Unit {0}
+IsNotLost (Stopped c es) = Unit {0}
+IsNotLost (Lost c es) = ⊥

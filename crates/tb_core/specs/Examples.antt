@@ -194,3 +194,29 @@ letrec_closures =
     node 4 (Letrec (2 ∷ 3 ∷ []) (0 ∷ 1 ∷ []) (call 11 (local 12 2) none))
     )))
     )
+
+-- (define g #\1)
+-- (define (f a b c) (write-char a) (write-char b) (write-char c))
+-- (let ((v #\2)) (f v (begin (set! v #\3) (set! g #\4) (write-char #\x) v) g))
+abbrev pub mixed_operands : ProgramTree
+mixed_operands =
+    program 2 [] (
+    lambda_at 4 (0 ∷ 1 ∷ 2 ∷ []) None (sequence 5 (three (put 6 (local 7 0)) (put 8 (local 9 1)) (put 10 (local 11 2)))) ∷ []
+    ) (three
+    (node 1 (DefGlobal 0 (letter 2 49)))
+    (node 3 (DefGlobal 1 (lambda 4 0)))
+    (let_one 12 3 (letter 13 50) (call 14 (global 15 1) (three
+    (local 16 3)
+    (sequence 17 (more (node 18 (SetLocal 3 (letter 19 51))) (three
+    (node 20 (SetGlobal 0 (letter 21 52)))
+    (put 22 (letter 23 120))
+    (local 24 3))))
+    (global 25 0)))))
+
+-- (apply 5 6)
+abbrev pub applied_number : ProgramTree
+applied_number = program 0 [] [] (one (node 1 (Apply (number 2 5) (number 3 6))))
+
+-- (apply (lambda (x) x) 6)
+abbrev pub applied_to_number : ProgramTree
+applied_to_number = program 0 [] (lambda_at 2 (0 ∷ []) None (local 3 0) ∷ []) (one (node 1 (Apply (lambda 2 0) (number 4 6))))

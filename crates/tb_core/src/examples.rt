@@ -5,10 +5,11 @@ ghost use Rattle.tb_prim.specs.declared.event.Taken.{Taken};
 ghost use Rattle.tb_prim.specs.declared.primitive.Primitive.{Primitive};
 ghost use Rattle.tb_semantics.specs.Runs.{after};
 ghost use Rattle.tb_core.specs.Effects.{Fails, Gives, effect_of};
-ghost use Rattle.tb_core.specs.Examples.{Emits, Stores, applied, assigned_capture, assigned_in_order, closure_of_one, complex_first, early_assignment, early_read, failure_after_output, letrec_closures, no_procedure, reads, rest_parameter, spot, tail_loop, wrong_count};
+ghost use Rattle.tb_core.specs.Examples.{Emits, Stores, applied, applied_number, applied_to_number, assigned_capture, assigned_in_order, closure_of_one, complex_first, early_assignment, early_read, failure_after_output, letrec_closures, mixed_operands, no_procedure, reads, rest_parameter, spot, tail_loop, wrong_count};
 ghost use Rattle.tb_core.specs.OperandOrder.{order_of};
 ghost use Rattle.tb_core.specs.Reference.{reference};
 ghost use Rattle.tb_core.specs.Space.{made_of, space_of};
+ghost use Rattle.tb_core.specs.Width.{all_widths, factor_bound, square_sum, width_of};
 ghost use Rattle.tb_core.specs.Store.{Bind, Clo, Empty, Fix, Nil};
 
 /// The events of small programs, as the definitions of the reference machine compute them.
@@ -26,6 +27,9 @@ pub fn worked_programs()
     ensures reads { Emits reads (97 ∷ []) (Event.Took (Taken.Byte 97) ∷ Event.Took Taken.End ∷ Event.Took Taken.End ∷ Event.End ∷ []) }
     ensures complex_first { Emits complex_first [] (Event.Put 65 ∷ Event.Put 66 ∷ Event.End ∷ []) }
     ensures assigned_in_order { Emits assigned_in_order [] (Event.Put 66 ∷ Event.End ∷ []) }
+    ensures mixed_operands { Emits mixed_operands [] (Event.Put 120 ∷ Event.Enter 0 ∷ Event.Put 50 ∷ Event.Put 51 ∷ Event.Put 52 ∷ Event.Back ∷ Event.End ∷ []) }
+    ensures applied_number { Emits applied_number [] (Event.Fail Cause.NotProcedure (spot 1) ∷ []) }
+    ensures applied_to_number { Emits applied_to_number [] (Event.Fail Cause.WrongType (spot 1) ∷ []) }
     ensures failure_after_output { Emits failure_after_output [] (Event.Put 65 ∷ Event.Fail Cause.WrongType (spot 3) ∷ []) }
     ensures letrec_closures { Emits letrec_closures [] (Event.Enter 0 ∷ Event.Enter 1 ∷ Event.Put 66 ∷ Event.Back ∷ Event.End ∷ []) }
 {}
@@ -52,6 +56,17 @@ pub fn worked_spaces()
     ensures at_closure { space_of closure_of_one (after (reference closure_of_one (order_of closure_of_one) []) 8) ≡ 7 }
     ensures at_entry { space_of closure_of_one (after (reference closure_of_one (order_of closure_of_one) []) 9) ≡ 6 }
     ensures made { made_of (after (reference closure_of_one (order_of closure_of_one) []) 9) ≡ 6 }
+{}
+
+/// The widths of the bodies and forms of two programs, counted by hand. The lambda expression of the first has
+/// one variable and eleven nodes; those of the second have four variables in scope and two nodes, and the form
+/// round them has eight, two of which are the lambda expressions of its `letrec`.
+pub fn worked_widths()
+    ensures tail_loop { all_widths tail_loop ≡ 2 ∷ 12 ∷ 3 ∷ [] }
+    ensures letrec_closures { all_widths letrec_closures ≡ 8 ∷ 6 ∷ 6 ∷ [] }
+    ensures widest { width_of tail_loop ≡ 12 }
+    ensures squares { square_sum tail_loop ≡ 157 }
+    ensures factor { factor_bound tail_loop ≡ 192 }
 {}
 
 /// The arithmetic of the primitives at the ends of the fixnums, and the signs of division.

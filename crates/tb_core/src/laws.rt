@@ -2,12 +2,12 @@ ghost use Rattle.std.specs.Prelude.{◌≡◌, ◌≤◌, ℕ, ◌+◌, List, Op
 ghost use Rattle.tb_prim.specs.declared.event.Event.{Event};
 ghost use Rattle.tb_semantics.specs.Graph.{ListsReachable, sum_of};
 ghost use Rattle.tb_semantics.specs.Runs.{EmitsInOrder, IsPrefix, after};
-ghost use Rattle.tb_core.specs.Events.{EndsLast, ComesToCall};
+ghost use Rattle.tb_core.specs.Events.{ComesToCall, EndsLast, IsNotLost};
 ghost use Rattle.tb_core.specs.FreeVariables.{inner_free, is_in, lambda_free};
-ghost use Rattle.tb_core.specs.OperandOrder.{HasLine, Line};
+ghost use Rattle.tb_core.specs.OperandOrder.{HasLine, Line, order_of};
 ghost use Rattle.tb_core.specs.Reference.{Config, State, Stopped, events_of, reference};
 ghost use Rattle.tb_core.specs.Rules.{Each, EachAll, KeepsRules};
-ghost use Rattle.tb_core.specs.Space.{made, own_words, size_at, space, store_graph};
+ghost use Rattle.tb_core.specs.Space.{made, made_of, own_words, size_at, space, store_graph};
 ghost use Rattle.tb_core.specs.Store.{Env, cut, lookup};
 ghost use Rattle.tb_core.specs.Tree.{LambdaTree, ProgramTree};
 
@@ -66,4 +66,14 @@ pub fn free_of_lambda()
 pub fn order_at_nodes()
     ensures forms { (p : ProgramTree) → KeepsRules p → EachAll (HasLine p) p.forms }
     ensures bodies { (p : ProgramTree) (n : ℕ) (l : LambdaTree) → KeepsRules p → slice_get p.lambdas n ≡ Some l → Each (HasLine p) l.body }
+{}
+
+/// A run of a program that keeps its rules, in its own order, has a next step until it stops with End or Fail.
+pub fn no_run_is_lost()
+    ensures law { (p : ProgramTree) (input : List ℕ) (n : ℕ) → KeepsRules p → IsNotLost (after (reference p (order_of p) input) n) }
+{}
+
+/// What was made only grows along a run.
+pub fn made_only_grows()
+    ensures law { (p : ProgramTree) (input : List ℕ) (n k : ℕ) → KeepsRules p → made_of (after (reference p (order_of p) input) n) ≤ made_of (after (reference p (order_of p) input) (n + k)) }
 {}

@@ -2,3 +2,4 @@ pub mod RuleLaws
 pub mod StepLaws
 pub mod StepRules
 pub mod RunLaws
+pub mod Immediates

@@ -1,17 +1,17 @@
 -- Runs of the interpreter as runs of the definition.
-use Rattle.std.proofs.Common.{◌≡◌, ℕ, ◌+◌, ◌≤◌, ◌<◌, List, [], ◌∷◌, ◌++◌, All, Option, Some, None, refl, sym, ap, ◌∙◌, subst, arith, append_assoc, append-nil, inl, inr}
+use Rattle.std.proofs.Common.{◌≡◌, ℕ, ◌+◌, ◌≤◌, ◌<◌, List, [], ◌∷◌, ◌++◌, All, Option, Some, None, refl, sym, ap, ◌∙◌, subst, arith, append_assoc, append-nil, inl, inr, lit≤}
 use Rattle.std.specs.Prelude.{IsSome}
 use Rattle.tb_prim.specs.declared.event.Event.{Event}
 use Rattle.tb_prim.specs.declared.event.Event.TheVariants as E
 use Rattle.tb_prim.specs.declared.event.Stop.{Stop}
 use Rattle.tb_prim.specs.declared.event.Stop.TheVariants as S
 use Rattle.tb_base.specs.Outside.{Rose}
-use Rattle.tb_semantics.specs.Runs.{run}
+use Rattle.tb_semantics.specs.Runs.{run, Appends, EmitsInOrder}
 use Rattle.tb_semantics.proofs.RunLaws.{run-add}
 use Rattle.tb_macm.specs.declared.code.Instr.{Instr}
 use Rattle.tb_macm.specs.declared.code.PlaceEntry.{PlaceEntry}
 use Rattle.tb_macm.specs.MacStep.{Mac, Outcome, Went, Stopped, mac_step}
-use Rattle.tb_macm.specs.MacEvents.{MacState, Going, Halted, with_stop, next_state, next, events_of, puts}
+use Rattle.tb_macm.specs.MacEvents.{MacState, Going, Halted, with_stop, next_state, next, events_of, puts, mac_machine}
 use Rattle.tb_macm.specs.Steps.{Adds, byte_put, bytes_of, StepDoes}
 use Rattle.tb_macm.specs.RunDoes.{IsPassing, StandsAt, RunDoes}
 use Rattle.std.proofs.lemmas.List.Elements.{All-append, All-cons, All-nil}
@@ -158,3 +158,19 @@ run_made code places old now n steps f g a b r e = record {
   stands = record { going = r.reached; all = e };
   put = subst (λ v. Adds a b v) (sym (going_bytes code places old now n a b r)) r.put;
 }
+
+appends_outcome : (m : Mac) (es : List Event) (outcome : Outcome) → Appends es (events_of (next_state m es outcome))
+appends_outcome m es (Went None m') = record { added = []; appended = sym (append-nil es); few = lit≤ tt }
+appends_outcome m es (Went (Some e) m') = record { added = e ∷ []; appended = refl; few = lit≤ tt }
+appends_outcome m es (Stopped S.End) = record { added = E.End ∷ []; appended = refl; few = lit≤ tt }
+appends_outcome m es (Stopped (S.Fail c p)) = record { added = E.Fail c p ∷ []; appended = refl; few = lit≤ tt }
+appends_outcome m es (Stopped (S.Full h s n)) = record { added = []; appended = sym (append-nil es); few = lit≤ tt }
+appends_outcome m es (Stopped S.Steps) = record { added = []; appended = sym (append-nil es); few = lit≤ tt }
+appends_outcome m es (Stopped (S.Stuck pc)) = record { added = []; appended = sym (append-nil es); few = lit≤ tt }
+appends_outcome m es (Stopped S.ReadFault) = record { added = []; appended = sym (append-nil es); few = lit≤ tt }
+appends_outcome m es (Stopped S.WriteFault) = record { added = []; appended = sym (append-nil es); few = lit≤ tt }
+
+-- a step emits at most one event, behind those before it
+pub emits_in_order : (code : List Instr) (places : List PlaceEntry) (heap : ℕ) → EmitsInOrder (mac_machine code places heap)
+emits_in_order code places heap (Going m es) = appends_outcome m es (mac_step code places m)
+emits_in_order code places heap (Halted m s es) = record { added = []; appended = sym (append-nil es); few = lit≤ tt }

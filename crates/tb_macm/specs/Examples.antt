@@ -1,5 +1,5 @@
 -- Runs of the machine's definition on code written out.
-use Rattle.std.specs.Prelude.{◌≡◌, [], ◌∷◌, List, pos, negsuc, replicate, slice_set, false}
+use Rattle.std.specs.Prelude.{◌≡◌, [], ◌∷◌, List, pos, replicate, slice_set, false}
 use Rattle.tb_prim.specs.declared.place.Place.{Place}
 use Rattle.tb_prim.specs.declared.event.Cause.{Cause}
 use Rattle.tb_prim.specs.declared.event.Event.{Event}
@@ -7,8 +7,7 @@ use Rattle.tb_prim.specs.declared.event.Stop.{Stop}
 use Rattle.tb_semantics.specs.Runs.{after}
 use Rattle.tb_macm.specs.declared.word.Word.TheVariants.{Fix, Special, Char}
 use Rattle.tb_macm.specs.declared.code.Instr.{Instr}
-use Rattle.tb_macm.specs.declared.code.Instr.TheVariants.{Save, Load, Store, Jump, Brf, Imm, Move, End, Op1, Op2}
-use Rattle.tb_macm.specs.declared.code.PlaceEntry.{PlaceEntry}
+use Rattle.tb_macm.specs.declared.code.Instr.TheVariants.{Save, Load, Store, Jump, Brf, Imm, End, Op1, Op2}
 use Rattle.tb_macm.specs.MacEvents.{Halted, events_of, mac_machine}
 
 -- writes the character a

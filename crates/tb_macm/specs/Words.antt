@@ -1,5 +1,5 @@
 -- The words of the MAC machine, and the numbers that stand for them in instructions.
-use Rattle.std.specs.Prelude.{ℕ, ◌-◌, ◌/◌, ◌%◌, ◌^◌, ◌==◌, cond, nat_lt, ℤ, pos, negsuc, neg_ℤ, Option, Some, None}
+use Rattle.std.specs.Prelude.{ℕ, ◌+◌, ◌-◌, ◌*◌, ◌<◌, ◌/◌, ◌%◌, ◌^◌, ◌==◌, cond, nat_lt, ℤ, pos, negsuc, neg_ℤ, Option, Some, None}
 use Rattle.tb_macm.specs.declared.word.Word.{Word}
 use Rattle.tb_macm.specs.declared.word.Word.TheVariants.{Fix, Special, Char, Header, Pointer, Code, Raw}
 
@@ -20,6 +20,28 @@ imm_word x =
     (cond (x % 256 == 10) (cond (nat_lt (x / 256) 256) (Some (Char (x / 256))) None)
     (cond (x % 256 == 2) (cond (nat_lt (x / 256) 6) (Some (Special (x / 256))) None)
     None))
+
+-- the words that an instruction can write: fixnums of 30 bits in two's complement, specials and characters
+abbrev pub IsImmediate : Word → Type 0
+IsImmediate (Fix (pos n)) = n < 2 ^ 29
+IsImmediate (Fix (negsuc n)) = n < 2 ^ 29
+IsImmediate (Special k) = k < 6
+IsImmediate (Char c) = c < 256
+IsImmediate (Header k n) = ⊥
+IsImmediate (Pointer t a) = ⊥
+IsImmediate (Code i) = ⊥
+IsImmediate (Raw bytes) = ⊥
+
+-- the 32 bits of such a word, as `imm_word` reads them
+abbrev pub imm_bits : Word → ℕ
+imm_bits (Fix (pos n)) = 4 * n
+imm_bits (Fix (negsuc n)) = 2 ^ 32 - 4 * (n + 1)
+imm_bits (Special k) = 256 * k + 2
+imm_bits (Char c) = 256 * c + 10
+imm_bits (Header k n) = 0
+imm_bits (Pointer t a) = 0
+imm_bits (Code i) = 0
+imm_bits (Raw bytes) = 0
 
 -- the number of slots that a size word gives
 abbrev pub frame_size : Word → Option ℕ

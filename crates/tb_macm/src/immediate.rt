@@ -1,5 +1,5 @@
 ghost use Rattle.std.specs.Prelude.{◌≡◌};
-ghost use Rattle.tb_macm.specs.Words.{fixnum_of, imm_word};
+ghost use Rattle.tb_macm.specs.Words.{fixnum_of, imm_word, imm_bits, IsImmediate};
 
 use super::Word;
 
@@ -33,5 +33,30 @@ pub fn immediate_word(bits: u32) -> Option<Word>
         }
     } else {
         None
+    }
+}
+
+fn fixnum_bits(value: i32) -> u32
+    requires { IsImmediate (Word.Fix value) }
+    ensures { result ≡ imm_bits (Word.Fix value) }
+{
+    if value >= 0 {
+        value as u32 * 4
+    } else {
+        u32::MAX - (-(value + 1)) as u32 * 4 - 3
+    }
+}
+
+/// The 32 bits of a fixnum, a special or a character.
+pub fn immediate_bits(word: Word) -> u32
+    requires { IsImmediate word }
+    ensures bits { result ≡ imm_bits word }
+    ensures read { imm_word result ≡ Some word }
+{
+    match word {
+        Word::Fix(value) => fixnum_bits(value),
+        Word::Special(number) => u32::from(number) * 256 + 2,
+        Word::Char(c) => u32::from(c) * 256 + 10,
+        _ => unreachable!(),
     }
 }

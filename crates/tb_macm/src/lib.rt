@@ -2,9 +2,9 @@
 #![tactic(auto)]
 
 mod code;
-mod examples;
 mod fetch;
 mod immediate;
+mod laws;
 mod machine;
 mod output;
 mod primitive;
@@ -18,8 +18,8 @@ pub use code::{
     BitRow, EntryRow, IndexRow, Instr, InstrRow, LambdaEntry, LiveMap, MacCode, MapRow, OrderEntry,
     OrderRow, Parts, PlaceEntry, PlaceRow,
 };
-pub use examples::runs_compute;
-pub use immediate::immediate_word;
+pub use immediate::{immediate_bits, immediate_word};
+pub use laws::{events_come_in_order, immediates_are_read_back, runs_compute};
 pub use machine::{LoadRefusal, MacMachine};
 pub use step::Step;
 pub use word::Word;

@@ -42,7 +42,6 @@ impl<'a> Model for MacMachine<'a> {
 
 impl<'a> MacMachine<'a> {
     ghost use Rattle.std.specs.Prelude.{◌≡◌, ◌≤◌, None, IfOk, IsOkUnless};
-    ghost use Rattle.tb_macm.specs.Loaded.{Loaded};
     ghost use Rattle.tb_macm.specs.MacStep.{mac_step};
     ghost use Rattle.tb_macm.specs.MacEvents.{mac_start};
     ghost use Rattle.tb_macm.specs.Steps.{StepDoes, byte_put};
@@ -57,7 +56,8 @@ impl<'a> MacMachine<'a> {
     ) -> Result<MacMachine<'a>, LoadRefusal>
         requires least { 1024 ≤ heap_words }
         requires most { heap_words ≤ 33554432 }
-        ensures loaded { IfOk result (λ m. m ≡ record { code = code.now.code; places = code.now.places; mac = mac_start heap_words }) }
+        ensures loaded { IfOk result (λ m. m
+            ≡ record { code = code.now.code; places = code.now.places; mac = mac_start heap_words }) }
         ensures refused { IsOkUnless result LoadRefusal.NoMemory }
     {
         let memory = vec![in alloc; Word::Fix(0); heap_words as usize]?;
@@ -78,7 +78,8 @@ impl<'a> MacMachine<'a> {
             (O.faults out.old) (O.faults out.new) result }
         ensures code { self.new.code ≡ self.old.code }
         ensures places { self.new.places ≡ self.old.places }
-        ensures untouched { byte_put (mac_step self.old.code self.old.places self.old.mac) ≡ None → out.new ≡ out.old }
+        ensures untouched { byte_put (mac_step self.old.code self.old.places self.old.mac) ≡ None
+            → out.new ≡ out.old }
         ensures later { O.faults out.old ≤ O.faults out.new }
         ensures input { input.new ≡ input.old }
     {
@@ -95,7 +96,7 @@ impl<'a> MacMachine<'a> {
         ensures later { O.faults out.old ≤ O.faults out.new }
         ensures input { input.new ≡ input.old }
     {
-        for made in 0..steps {
+        for _made in 0..steps {
             match self.step(input, out) {
                 Step::Went(_event) => {}
                 Step::Stopped(stop) => return stop,

@@ -1,4 +1,4 @@
-ghost use Rattle.std.specs.Prelude.{◌≡◌, ◌+◌, ◌<◌, ◌≤◌, ◌^◌, vec_len, length, slice_get, Option, Some, None};
+ghost use Rattle.std.specs.Prelude.{◌≡◌, ◌<◌, ◌≤◌, ◌^◌, vec_len};
 ghost use Rattle.tb_macm.specs.MacStep.{place_of};
 
 use super::fetch::fetch;
@@ -23,8 +23,10 @@ pub struct State {
 }
 
 impl State {
-    ghost use Rattle.std.specs.Prelude.{◌≡◌, ◌+◌, ◌<◌, ◌≤◌, ◌^◌, vec_len, length, slice_get, Option, Some, None};
-    ghost use Rattle.tb_macm.specs.MacStep.{Mac, set_register, set_word, jump_to, top_size, slot_at, stuck, goes, save, load, store, branch, immediate, copy, finish, apply_1, apply_2, perform, mac_step};
+    ghost use Rattle.std.specs.Prelude.{◌≡◌, ◌<◌, ◌≤◌, ◌^◌, vec_len, length, None};
+    ghost use Rattle.tb_macm.specs.MacStep.{set_register, set_word, jump_to, top_size, slot_at, stuck, goes};
+    ghost use Rattle.tb_macm.specs.MacStep.{save, load, store, branch, immediate, copy, finish};
+    ghost use Rattle.tb_macm.specs.MacStep.{apply_1, apply_2, perform, mac_step};
     ghost use Rattle.tb_macm.specs.Rules.{InstrOk};
     ghost use Rattle.tb_macm.specs.States.{mac_of};
     ghost use Rattle.tb_macm.specs.Steps.{Does, StepDoes, byte_put};
@@ -201,7 +203,8 @@ impl State {
         ensures does { let outcome = finish places.now a (mac_of self.old) answer in
             StepDoes outcome (mac_of self.old) (mac_of self.new) (O.held out.old) (O.held out.new)
             (O.faults out.old) (O.faults out.new) result }
-        ensures untouched { byte_put (finish places.now a (mac_of self.old) answer) ≡ None → out.new ≡ out.old }
+        ensures untouched { byte_put (finish places.now a (mac_of self.old) answer) ≡ None
+            → out.new ≡ out.old }
         ensures later { O.faults out.old ≤ O.faults out.new }
     {
         match answer {
@@ -238,7 +241,8 @@ impl State {
         ensures does { let outcome = apply_1 places.now a b number (mac_of self.old) in
             StepDoes outcome (mac_of self.old) (mac_of self.new) (O.held out.old) (O.held out.new)
             (O.faults out.old) (O.faults out.new) result }
-        ensures untouched { byte_put (apply_1 places.now a b number (mac_of self.old)) ≡ None → out.new ≡ out.old }
+        ensures untouched { byte_put (apply_1 places.now a b number (mac_of self.old)) ≡ None
+            → out.new ≡ out.old }
         ensures later { O.faults out.old ≤ O.faults out.new }
     {
         let answer = unary(number, self.registers[b as usize]);
@@ -261,7 +265,8 @@ impl State {
         ensures does { let outcome = apply_2 places.now a b c number (mac_of self.old) in
             StepDoes outcome (mac_of self.old) (mac_of self.new) (O.held out.old) (O.held out.new)
             (O.faults out.old) (O.faults out.new) result }
-        ensures untouched { byte_put (apply_2 places.now a b c number (mac_of self.old)) ≡ None → out.new ≡ out.old }
+        ensures untouched { byte_put (apply_2 places.now a b c number (mac_of self.old)) ≡ None
+            → out.new ≡ out.old }
         ensures later { O.faults out.old ≤ O.faults out.new }
     {
         let answer = binary(
@@ -280,7 +285,8 @@ impl State {
         ensures does { let outcome = perform code.now.places (mac_of self.old) instr in
             StepDoes outcome (mac_of self.old) (mac_of self.new) (O.held out.old) (O.held out.new)
             (O.faults out.old) (O.faults out.new) result }
-        ensures untouched { byte_put (perform code.now.places (mac_of self.old) instr) ≡ None → out.new ≡ out.old }
+        ensures untouched { byte_put (perform code.now.places (mac_of self.old) instr) ≡ None
+            → out.new ≡ out.old }
         ensures later { O.faults out.old ≤ O.faults out.new }
     {
         match instr {
@@ -303,7 +309,8 @@ impl State {
         ensures does { let outcome = mac_step code.now.code code.now.places (mac_of self.old) in
             StepDoes outcome (mac_of self.old) (mac_of self.new) (O.held out.old) (O.held out.new)
             (O.faults out.old) (O.faults out.new) result }
-        ensures untouched { byte_put (mac_step code.now.code code.now.places (mac_of self.old)) ≡ None → out.new ≡ out.old }
+        ensures untouched { byte_put (mac_step code.now.code code.now.places (mac_of self.old)) ≡ None
+            → out.new ≡ out.old }
         ensures later { O.faults out.old ≤ O.faults out.new }
     {
         match fetch(code, self.pc) {

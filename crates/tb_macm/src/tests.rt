@@ -55,12 +55,19 @@ fn no_parts(alloc: Global) -> Parts
 fn no_map() -> LiveMap
     ensures { MapOk result }
 {
-    LiveMap { regs: 0, slots: None }
+    LiveMap {
+        regs: 0,
+        slots: None,
+    }
 }
 
 /// Code that writes the character a.
 fn write_a(alloc: Global) -> Result<MacCode, AllocError> {
-    let place = Place { library: false, line: 1, column: 1 };
+    let place = Place {
+        library: false,
+        line: 1,
+        column: 1,
+    };
     let code = vec![in alloc; Instr::Imm(1, 24842), Instr::Op1(16, 1, 42), Instr::End]?;
     let maps = vec![in alloc; no_map(), no_map(), no_map()]?;
     let places = vec![in alloc; PlaceEntry { instr: 1, place }]?;

@@ -1,22 +1,21 @@
 -- The code of an expression comes to what the expression means.
-use Rattle.std.proofs.Common.{◌≡◌, ℕ, zero, suc, ◌+◌, ◌<◌, ◌≤◌, Bool, true, false, cond, ℤ, length, List, [], ◌∷◌, ◌++◌, Option, Some, None, refl, sym, ap, ◌∙◌, subst, append-nil, append_assoc, length-append, arith}
-use Rattle.std.specs.Prelude.{slice_get, slice_set}
+use Rattle.std.proofs.Common.{◌≡◌, ℕ, ◌+◌, ◌<◌, ◌≤◌, Bool, true, false, length, List, [], ◌∷◌, ◌++◌, Some, refl, sym, ap, ◌∙◌, subst, append-nil, append_assoc, length-append, arith}
+use Rattle.std.specs.Prelude.{slice_get}
 use Rattle.tb_prim.specs.declared.place.Place.{Place}
-use Rattle.tb_prim.specs.declared.constant.Const.{Const}
 use Rattle.tb_prim.specs.declared.event.Cause.{Cause}
 use Rattle.tb_prim.specs.declared.event.Event.{Event}
 use Rattle.tb_prim.specs.declared.event.Stop.{Stop}
 use Rattle.tb_prim.specs.declared.primitive.Primitive.TheVariants.{WriteChar}
-use Rattle.tb_core.specs.Tree.{Tree, Node, Form, Quote, PrimUse, Trees, none, more}
+use Rattle.tb_core.specs.Tree.{Tree, Node, Form, Quote, PrimUse, none, more}
 use Rattle.tb_core.specs.Store.{Value, Fix, Char, Truth, Nil, Unspecified, Undefined, EndObject, At, value_of}
 use Rattle.tb_macm.specs.declared.word.Word.{Word}
 use Rattle.tb_macm.specs.declared.word.Word.TheVariants as W
 use Rattle.tb_macm.specs.declared.code.Instr.{Instr}
-use Rattle.tb_macm.specs.declared.code.Instr.TheVariants.{Save, Imm, Op1, End}
+use Rattle.tb_macm.specs.declared.code.Instr.TheVariants.{Imm, Op1}
 use Rattle.tb_macm.specs.declared.code.PlaceEntry.{PlaceEntry}
 use Rattle.tb_macm.specs.Words.{on_some, imm_word}
-use Rattle.tb_macm.specs.MacStep.{Mac, Outcome, Went, Stopped, mac_step, perform, stuck, set_register, goes, place_of, finish, primitive_1}
-use Rattle.tb_macm.specs.MacEvents.{MacState, Going, Halted, next, next_state}
+use Rattle.tb_macm.specs.MacStep.{Mac, Stopped, perform, stuck, set_register, goes, place_of, finish, primitive_1}
+use Rattle.tb_macm.specs.MacEvents.{Going, Halted, next, next_state}
 use Rattle.tb_twobit.specs.Generate.{code, codes, places, all_places, bits_of, result}
 use Rattle.tb_twobit.proofs.Meaning.{Meaning, Gave, Failed, before, and_then, write, meaning}
 use Rattle.tb_core.specs.Reference.{Context}
@@ -96,11 +95,16 @@ module _ (C : List Instr) (P : List PlaceEntry) where
   }
 
   quoted : (m : Mac) (es : List Event) (n x : ℕ) (v : Value) → m.pc ≡ n → length m.registers ≡ 17 → slice_get C n ≡ Some (Imm result x) → imm_word x ≡ Some (word_of v) → Runs m es n 1 (Gave [] v)
-  quoted m es n x v there wide h e =
-      (set_register result (word_of v) m, 1, arrived m n (word_of v) there wide, omega arith, one (next C P) _ _
+  quoted m es n x v there wide h e = (
+    set_register result (word_of v) m,
+    1,
+    arrived m n (word_of v) there wide,
+    omega arith,
+    one (next C P) _ _
         (performs m es n (Imm result x) there h
         ∙ ap (λ o. next_state m es (on_some o (stuck m) (λ w. goes (set_register result w m)))) e
-        ∙ ap (λ ev. Going (set_register result (word_of v) m) ev) (sym (append-nil es))))
+        ∙ ap (λ ev. Going (set_register result (word_of v) m) ev) (sym (append-nil es))),
+  )
 
   -- the step of the primitive, whose operand is in RESULT
   puts : (m : Mac) (es : List Event) (n : ℕ) (w : Word) → m.pc ≡ n → slice_get m.registers result ≡ Some w → slice_get C n ≡ Some (Op1 result result 42) →
@@ -128,9 +132,11 @@ module _ (C : List Instr) (P : List PlaceEntry) where
 
   put_left : (m : Mac) (es fs : List Event) (n size : ℕ) (p : Place) (v : Value) → m.pc ≡ n + size → length m.registers ≡ 17 → slice_get m.registers result ≡ Some (word_of v) →
       slice_get C (n + size) ≡ Some (Op1 result result 42) → place_of P (n + size) ≡ Some p → PutLeft m es fs n size (before fs (write p v))
-  put_left m es fs n size p (Char b) there wide value h found =
-      (set_register result (W.Special 3) m, arrived m (n + size) (W.Special 3) there wide,
-        puts m (es ++ fs) (n + size) (W.Char b) there value h ∙ ap (λ ev. Going (set_register result (W.Special 3) m) ev) (append_assoc es fs (Event.Put b ∷ [])))
+  put_left m es fs n size p (Char b) there wide value h found = (
+    set_register result (W.Special 3) m,
+    arrived m (n + size) (W.Special 3) there wide,
+    puts m (es ++ fs) (n + size) (W.Char b) there value h ∙ ap (λ ev. Going (set_register result (W.Special 3) m) ev) (append_assoc es fs (Event.Put b ∷ [])),
+  )
   put_left m es fs n size p (Fix k) there wide value h found = cannot m es fs n size p there found (puts m (es ++ fs) (n + size) _ there value h)
   put_left m es fs n size p (Truth true) there wide value h found = cannot m es fs n size p there found (puts m (es ++ fs) (n + size) _ there value h)
   put_left m es fs n size p (Truth false) there wide value h found = cannot m es fs n size p there found (puts m (es ++ fs) (n + size) _ there value h)
@@ -143,17 +149,20 @@ module _ (C : List Instr) (P : List PlaceEntry) where
   then_put : (m m1 : Mac) (es : List Event) (n size size1 k : ℕ) (p : Place) (v : Value) (fs : List Event) → size1 ≡ size + 1 → k ≤ size → Arrived m m1 (n + size) (word_of v) →
       Leads (next C P) k (Going m es) (Going m1 (es ++ fs)) → slice_get C (n + size) ≡ Some (Op1 result result 42) → place_of P (n + size) ≡ Some p →
       (r : Meaning) → PutLeft m1 es fs n size r → Runs m es n size1 r
-  then_put m m1 es n size size1 k p v fs size_is few a path h found (Gave gs u) (now, b, e) =
-      (now, k + 1,
-        record {
-          there = b.there ∙ (let q : n + size + 1 ≡ n + size1 = omega arith in q);
-          value = b.value;
-          wide = b.wide;
-          memory = b.memory ∙ a.memory;
-          heap_pointer = b.heap_pointer ∙ a.heap_pointer;
-          stack_pointer = b.stack_pointer ∙ a.stack_pointer;
-        },
-        omega arith, then (next C P) k 1 _ _ _ path (one (next C P) _ _ e))
+  then_put m m1 es n size size1 k p v fs size_is few a path h found (Gave gs u) (now, b, e) = (
+    now,
+    k + 1,
+    record {
+      there = b.there ∙ (let q : n + size + 1 ≡ n + size1 = omega arith in q);
+      value = b.value;
+      wide = b.wide;
+      memory = b.memory ∙ a.memory;
+      heap_pointer = b.heap_pointer ∙ a.heap_pointer;
+      stack_pointer = b.stack_pointer ∙ a.stack_pointer;
+    },
+    omega arith,
+    then (next C P) k 1 _ _ _ path (one (next C P) _ _ e),
+  )
   then_put m m1 es n size size1 k p v fs size_is few a path h found (Failed gs c q) (now, e) =
       (now, k + 1, omega arith, then (next C P) k 1 _ _ _ path (one (next C P) _ _ e))
 
@@ -162,7 +171,7 @@ module _ (C : List Instr) (P : List PlaceEntry) where
       (r : Meaning) → Runs m es n size r → Runs m es n size1 (and_then r (write p))
   written m es n size size1 p size_is h found (Gave fs v) (m1, k, a, few, path) =
       then_put m m1 es n size size1 k p v fs size_is few a path h found (before fs (write p v))
-        (put_left m1 es fs n size p v a.there a.wide a.value h found)
+      (put_left m1 es fs n size p v a.there a.wide a.value h found)
   written m es n size size1 p size_is h found (Failed fs c q) (m1, k, few, path) = (m1, k, omega arith, path)
 
   -- the code of an expression runs as the expression means
@@ -174,13 +183,13 @@ module _ (C : List Instr) (P : List PlaceEntry) where
       let one_places : all_places n (more e none) ≡ places n e = append-nil (places n e) in
       let stands1 : Stands C n (code e ++ Op1 result result 42 ∷ []) = subst (λ is. Stands C n (is ++ Op1 result result 42 ∷ [])) one_code stands in
       let found1 : Found P (places n e ++ record { instr = n + length (code e); place = p } ∷ []) =
-        subst (λ ps. Found P (ps ++ record { instr = n + length (code e); place = p } ∷ [])) one_places
-          (subst (λ is. Found P (all_places n (more e none) ++ record { instr = n + length is; place = p } ∷ [])) one_code found) in
+      subst (λ ps. Found P (ps ++ record { instr = n + length (code e); place = p } ∷ [])) one_places
+      (subst (λ is. Found P (all_places n (more e none) ++ record { instr = n + length is; place = p } ∷ [])) one_code found) in
       let size : length (codes (more e none) ++ Op1 result result 42 ∷ []) ≡ length (code e) + 1 =
-        length-append (codes (more e none)) (Op1 result result 42 ∷ []) ∙ ap (λ is. length is + 1) one_code in
+      length-append (codes (more e none)) (Op1 result result 42 ∷ []) ∙ ap (λ is. length is + 1) one_code in
       written m es n (length (code e)) (length (codes (more e none) ++ Op1 result result 42 ∷ [])) p size
-        (stands_back C n (code e) (Op1 result result 42 ∷ []) stands1).0
-        (found_back P (places n e) (record { instr = n + length (code e); place = p } ∷ []) found1).0
-        (meaning e)
-        (code_runs b has m es n there wide (stands_front C n (code e) (Op1 result result 42 ∷ []) stands1)
-          (found_front P (places n e) (record { instr = n + length (code e); place = p } ∷ []) found1))
+      (stands_back C n (code e) (Op1 result result 42 ∷ []) stands1).0
+      (found_back P (places n e) (record { instr = n + length (code e); place = p } ∷ []) found1).0
+      (meaning e)
+      (code_runs b has m es n there wide (stands_front C n (code e) (Op1 result result 42 ∷ []) stands1)
+      (found_front P (places n e) (record { instr = n + length (code e); place = p } ∷ []) found1))

@@ -1,10 +1,10 @@
 -- What an expression comes to, told at once: the events that it emits, and its value or its failure.
-use Rattle.std.proofs.Common.{◌≡◌, List, [], ◌∷◌, ◌++◌, refl, append_assoc, append-nil}
+use Rattle.std.proofs.Common.{List, [], ◌∷◌, ◌++◌}
 use Rattle.tb_prim.specs.declared.place.Place.{Place}
 use Rattle.tb_prim.specs.declared.event.Cause.{Cause}
 use Rattle.tb_prim.specs.declared.event.Event.{Event}
 use Rattle.tb_prim.specs.declared.primitive.Primitive.TheVariants.{WriteChar}
-use Rattle.tb_core.specs.Tree.{Tree, Node, Form, Quote, PrimUse, Trees, none, more}
+use Rattle.tb_core.specs.Tree.{Tree, Node, Form, Quote, PrimUse, none, more}
 use Rattle.tb_core.specs.Store.{Value, Char, Unspecified, value_of}
 
 pub data Meaning : Type 0 where

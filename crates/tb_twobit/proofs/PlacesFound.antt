@@ -1,9 +1,8 @@
 -- The places of code are in the order of its instructions, so that each is found.
-use Rattle.std.proofs.Common.{◌≡◌, ℕ, suc, ◌+◌, ◌<◌, ◌≤◌, ◌==◌, Bool, true, false, cond, length, List, [], ◌∷◌, ◌++◌, Option, Some, refl, sym, ap, ◌∙◌, subst, length-append, append_assoc, append-nil, arith}
+use Rattle.std.proofs.Common.{◌≡◌, ℕ, suc, ◌+◌, ◌<◌, ◌≤◌, ◌==◌, true, false, cond, length, List, [], ◌∷◌, ◌++◌, Some, refl, sym, ap, ◌∙◌, subst, length-append, append_assoc, append-nil, arith}
 use Rattle.std.specs.Prelude.{option_map, find}
 use Rattle.std.proofs.lemmas.Bool.Decides.{nat_tests}
-use Rattle.tb_prim.specs.declared.primitive.Primitive.TheVariants.{WriteChar}
-use Rattle.tb_core.specs.Tree.{Tree, Node, Form, Quote, PrimUse, Trees, none, more}
+use Rattle.tb_core.specs.Tree.{Tree, Trees, none, more}
 use Rattle.tb_core.specs.Reference.{Context}
 use Rattle.tb_macm.specs.declared.code.PlaceEntry.{PlaceEntry}
 use Rattle.tb_macm.specs.declared.code.Instr.TheVariants.{Op1}
@@ -32,7 +31,7 @@ places_ascend (write_char {p} {s} {e} o b) n =
     let one_places : all_places n (more e none) ≡ places n e = append-nil (places n e) in
     let m = n + length (codes (more e none)) in
     let h : Ascends n m (all_places n (more e none)) =
-      subst (λ ps. Ascends n m ps) (sym one_places) (subst (λ is. Ascends n (n + length is) (places n e)) (sym one_code) (places_ascend b n)) in
+    subst (λ ps. Ascends n m ps) (sym one_places) (subst (λ is. Ascends n (n + length is) (places n e)) (sym one_code) (places_ascend b n)) in
     let size : length (codes (more e none) ++ Op1 result result 42 ∷ []) ≡ length (codes (more e none)) + 1 = length-append (codes (more e none)) (Op1 result result 42 ∷ []) in
     let least : m ≤ m = omega arith in
     let high : suc m ≤ n + length (codes (more e none) ++ Op1 result result 42 ∷ []) = omega arith in
@@ -49,7 +48,7 @@ all_ascend x (more e es) b n =
     let m = n + length (code e) in
     let size : m + length (codes es) ≡ n + length (code e ++ codes es) = (let h : length (code e ++ codes es) ≡ length (code e) + length (codes es) = length-append (code e) (codes es) in omega arith) in
     ascends_append n m (n + length (code e ++ codes es)) (places n e) (all_places m es) (places_ascend b.0 n)
-      (subst (λ high. Ascends m high (all_places m es)) size (all_ascend x es b.1 m))
+    (subst (λ high. Ascends m high (all_places m es)) size (all_ascend x es b.1 m))
 
 -- instructions before a number
 abbrev Below : ℕ → List PlaceEntry → Type 0
@@ -85,11 +84,12 @@ found_behind : (low high : ℕ) (es ds : List PlaceEntry) → Below low es → A
 found_behind low high es [] b a = tt
 found_behind low high es (d ∷ ds) b a =
     let less : low ≤ d.instr = a.0 in
-    let own : d.instr < suc d.instr = omega arith in
-    (skips d.instr es (d ∷ ds) (below_more low d.instr es less b) ∙ finds d.instr d ds refl,
+    let own : d.instr < suc d.instr = omega arith in (
+      skips d.instr es (d ∷ ds) (below_more low d.instr es less b) ∙ finds d.instr d ds refl,
       subst (λ ps. Found ps ds) (append_assoc es (d ∷ []) ds)
-        (found_behind (suc d.instr) high (es ++ d ∷ []) ds
-          (below_append (suc d.instr) es (d ∷ []) (below_more low (suc d.instr) es (omega arith) b) (own, tt)) a.1))
+          (found_behind (suc d.instr) high (es ++ d ∷ []) ds
+          (below_append (suc d.instr) es (d ∷ []) (below_more low (suc d.instr) es (omega arith) b) (own, tt)) a.1),
+    )
 
 -- each place of a list of expressions is found
 pub all_found : (x : Context) (es : Trees) → AllBuilt x es → (n : ℕ) → Found (all_places n es) (all_places n es)

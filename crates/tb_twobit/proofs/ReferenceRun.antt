@@ -1,13 +1,13 @@
 -- The reference machine comes to what an expression means.
-use Rattle.std.proofs.Common.{◌≡◌, ℕ, zero, suc, ◌+◌, length, drop, List, [], ◌∷◌, ◌++◌, refl, sym, ap, ◌∙◌, subst, append-nil, append_assoc}
+use Rattle.std.proofs.Common.{◌≡◌, ℕ, length, drop, List, [], ◌∷◌, ◌++◌, refl, sym, ap, ◌∙◌, append-nil, append_assoc}
 use Rattle.tb_prim.specs.declared.place.Place.{Place}
 use Rattle.tb_prim.specs.declared.constant.Const.{Const}
 use Rattle.tb_prim.specs.declared.event.Cause.{Cause}
 use Rattle.tb_prim.specs.declared.event.Event.{Event}
 use Rattle.tb_prim.specs.declared.primitive.Primitive.TheVariants.{WriteChar}
-use Rattle.tb_core.specs.Tree.{Tree, Node, Form, Quote, PrimUse, Trees, none, more}
-use Rattle.tb_core.specs.Store.{Value, Fix, Char, Truth, Nil, Unspecified, Undefined, EndObject, At, Env, Empty, value_of}
-use Rattle.tb_core.specs.Reference.{Context, Config, Control, Eval, Val, Frame, Work, Args, Top, State, Running, Stopped, step, push, operands_left, complete, arranged, perform}
+use Rattle.tb_core.specs.Tree.{Tree, Node, Quote, PrimUse, none, more}
+use Rattle.tb_core.specs.Store.{Value, Fix, Char, Truth, Nil, Unspecified, Undefined, EndObject, At, Empty, value_of}
+use Rattle.tb_core.specs.Reference.{Context, Config, Control, Eval, Val, Frame, Work, Args, State, Running, Stopped, step, push, operands_left, complete, arranged, perform}
 use Rattle.tb_core.specs.Effects.{effect_of}
 use Rattle.tb_twobit.proofs.Meaning.{Meaning, Gave, Failed, before, and_then, write, meaning}
 use Rattle.tb_twobit.proofs.Steps.{Comes, comes_here, comes_by, comes_then}
@@ -83,8 +83,8 @@ then_written : (x : Context) (c : Config) (p : Place) (s : ℕ) (e : Tree) → x
 then_written x c p s e o fs es t (Gave es1 v) h =
     does_after x c fs es t (at c (Val v) (push (args p s e) fs) (es ++ es1)) (before es1 (write p v)) h
     (does_after x c fs es _ (put (record c { control = Val v; frames = push (args p s e) fs }) p v fs (es ++ es1)) (before es1 (write p v))
-      (comes_by (step x) _ _ _ (completes x c p s e o v fs (es ++ es1)) (comes_here (step x) _ _ refl))
-      (wrote x c (Val v) (push (args p s e) fs) p v fs es es1 _ refl))
+    (comes_by (step x) _ _ _ (completes x c p s e o v fs (es ++ es1)) (comes_here (step x) _ _ refl))
+    (wrote x c (Val v) (push (args p s e) fs) p v fs es es1 _ refl))
 then_written x c p s e o fs es t (Failed es1 cause q) h = h
 
 -- an expression is evaluated to its meaning
@@ -93,5 +93,5 @@ does x c (quote {p} {s} {c = k}) fs es =
     comes_by (step x) _ _ _ (ap (λ ev. at c (Val (value_of k)) fs ev) (sym (append-nil es))) (comes_here (step x) _ _ refl)
 does x c (write_char {p} {s} {e} o b) fs es =
     does_after x c fs es _ (at c (Eval e Empty) (push (args p s e) fs) es) (and_then (meaning e) (write p))
-      (comes_by (step x) _ _ _ (begins x c p s e o fs es) (comes_here (step x) _ _ refl))
-      (then_written x c p s e o fs es _ (meaning e) (does x c b (push (args p s e) fs) es))
+    (comes_by (step x) _ _ _ (begins x c p s e o fs es) (comes_here (step x) _ _ refl))
+    (then_written x c p s e o fs es _ (meaning e) (does x c b (push (args p s e) fs) es))

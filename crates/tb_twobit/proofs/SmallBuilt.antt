@@ -1,16 +1,15 @@
 -- The small forms have code, and the order has a line for each.
-use Rattle.std.proofs.Common.{◌≡◌, ℕ, ◌+◌, ◌*◌, ◌/◌, ◌%◌, ◌<◌, ◌==◌, nat_lt, Bool, true, false, cond, List, [], ◌∷◌, ◌++◌, Some, refl, sym, ap, ◌∙◌, subst, append_assoc, append-nil, arith}
+use Rattle.std.proofs.Common.{◌≡◌, ℕ, ◌+◌, ◌*◌, ◌/◌, ◌%◌, ◌<◌, ◌==◌, nat_lt, Bool, true, false, cond, List, [], ◌∷◌, ◌++◌, Some, refl, sym, ap, ◌∙◌, append_assoc, arith}
 use Rattle.std.proofs.lemmas.Bool.Decides.{nat_tests}
-use Rattle.tb_prim.specs.declared.place.Place.{Place}
-use Rattle.tb_core.specs.Tree.{Tree, Trees, none, more}
+use Rattle.tb_core.specs.Tree.{Trees, none, more}
 use Rattle.tb_core.specs.FreeVariables.{is_assigned}
 use Rattle.tb_core.specs.OperandOrder.{Line, line_at, lines_all, lambdas_lines, order_of}
 use Rattle.tb_core.specs.Reference.{Context, context_of}
 use Rattle.tb_macm.specs.declared.word.Word.TheVariants as W
 use Rattle.tb_macm.specs.Words.{imm_word}
 use Rattle.tb_twobit.specs.Generate.{program_of}
-use Rattle.tb_twobit.specs.SmallForms.{write_tree, FormsFrom, no_forms, form}
-use Rattle.tb_twobit.proofs.ReferenceRun.{Built, quote, write_char}
+use Rattle.tb_twobit.specs.SmallForms.{FormsFrom, no_forms, form}
+use Rattle.tb_twobit.proofs.ReferenceRun.{quote, write_char}
 use Rattle.tb_twobit.proofs.PlacesFound.{AllBuilt}
 use Rattle.tb_twobit.proofs.ProgramRun.{AllHaveWords}
 
@@ -48,10 +47,11 @@ built_behind : (x : Context) (assigned : ℕ → Bool) (inner : ℕ → List Lin
     ((s : ℕ) → x.order s ≡ line_at (ls ++ lines_all assigned inner es) s) → AllBuilt x es
 built_behind x assigned inner k none no_forms ls h e = tt
 built_behind x assigned inner k (more t es) (form {b = b} {p = p} {q = q} small f) ls h e =
-    let l : Line = record { place = p; site = k; order = 0 ∷ [] } in
-    (write_char (e k ∙ line_found ls l (lines_all assigned inner es) h refl) quote,
+    let l : Line = record { place = p; site = k; order = 0 ∷ [] } in (
+      write_char (e k ∙ line_found ls l (lines_all assigned inner es) h refl) quote,
       built_behind x assigned inner (k + 2) es f (ls ++ l ∷ []) (of_one_append ls (l ∷ []) h (refl, tt))
-        (λ s. e s ∙ ap (λ ms. line_at ms s) (sym (append_assoc ls (l ∷ []) (lines_all assigned inner es)))))
+          (λ s. e s ∙ ap (λ ms. line_at ms s) (sym (append_assoc ls (l ∷ []) (lines_all assigned inner es)))),
+    )
 
 -- the context of the forms as a program
 abbrev pub small_context : Trees → Context

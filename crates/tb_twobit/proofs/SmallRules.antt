@@ -1,18 +1,16 @@
 -- The code of the small forms keeps the rules of code.
-use Rattle.std.proofs.Common.{◌≡◌, ℕ, ◌+◌, ◌*◌, ◌<◌, ◌≤◌, ◌^◌, length, map, List, [], ◌∷◌, ◌++◌, Some, refl, sym, ap, ◌∙◌, subst, append-nil, length-append, arith}
+use Rattle.std.proofs.Common.{◌≡◌, ℕ, ◌+◌, ◌*◌, ◌≤◌, length, map, List, [], ◌∷◌, ◌++◌, refl, sym, ap, ◌∙◌, subst, length-append, arith}
 use Rattle.std.specs.Prelude.{IsSome, All}
 use Rattle.std.proofs.lemmas.List.Elements.{All-cons}
 use Rattle.tb_core.specs.Tree.{Tree, Trees, none, more, count}
-use Rattle.tb_macm.specs.declared.code.Instr.{Instr}
 use Rattle.tb_macm.specs.declared.code.Instr.TheVariants.{Save, Imm, Op1, End}
 use Rattle.tb_macm.specs.declared.code.PlaceEntry.{PlaceEntry}
 use Rattle.tb_macm.specs.Rules.{InstrOk, failing_from}
-use Rattle.tb_macm.specs.Words.{imm_word}
 use Rattle.tb_core.specs.View.{trees}
 use Rattle.tb_twobit.specs.Bits.{AllHaveBits}
 use Rattle.tb_twobit.specs.Compiled.{CodeKeepsRules}
 use Rattle.tb_twobit.specs.Generate.{codes, all_places, program_code, program_places}
-use Rattle.tb_twobit.specs.SmallForms.{write_tree, FormsFrom, no_forms, form}
+use Rattle.tb_twobit.specs.SmallForms.{FormsFrom, no_forms, form}
 use Rattle.tb_twobit.proofs.SmallBuilt.{char_word}
 
 pub small_bits : (k : ℕ) (es : Trees) → FormsFrom k es → AllHaveBits es
@@ -28,7 +26,7 @@ pub small_fields : (n k : ℕ) (es : Trees) → FormsFrom k es → All (InstrOk 
 small_fields n k none no_forms = All-cons (InstrOk n) End [] tt (λ i d h. absurd (omega arith))
 small_fields n k (more t es) (form {b = b} small f) =
     All-cons (InstrOk n) (Imm 16 (256 * b + 10)) (Op1 16 16 42 ∷ (codes es ++ End ∷ [])) (omega arith, subst IsSome (sym (char_word b small)) refl)
-      (All-cons (InstrOk n) (Op1 16 16 42) (codes es ++ End ∷ []) (omega arith, omega arith, refl) (small_fields n (k + 2) es f))
+    (All-cons (InstrOk n) (Op1 16 16 42) (codes es ++ End ∷ []) (omega arith, omega arith, refl) (small_fields n (k + 2) es f))
 
 -- the places are those of the instructions that can fail
 pub small_failing : (n k : ℕ) (es : Trees) → FormsFrom k es → map (λ (e : PlaceEntry). e.instr) (all_places n es) ≡ failing_from n (codes es ++ End ∷ [])

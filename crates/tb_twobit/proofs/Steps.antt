@@ -1,5 +1,5 @@
 -- From one state to another in some number of steps.
-use Rattle.std.proofs.Common.{◌≡◌, ℕ, zero, suc, ◌+◌, ◌≤◌, refl, sym, ap, ◌∙◌, subst, arith}
+use Rattle.std.proofs.Common.{◌≡◌, ℕ, ◌+◌, refl, ap, ◌∙◌}
 use Rattle.tb_semantics.specs.Runs.{run}
 use Rattle.tb_semantics.proofs.RunLaws.{run-add}
 

@@ -1,15 +1,15 @@
 -- The code of the small forms keeps the reference machine.
-use Rattle.std.proofs.Common.{◌≡◌, ℕ, zero, suc, ◌+◌, ◌-◌, ◌<◌, ◌≤◌, Bool, true, false, cond, length, List, [], ◌∷◌, ◌++◌, Option, Some, None, refl, sym, ap, ◌∙◌, subst, append-nil, append_assoc, length-append, arith}
+use Rattle.std.proofs.Common.{◌≡◌, ℕ, ◌+◌, ◌-◌, ◌≤◌, false, cond, length, List, [], ◌∷◌, ◌++◌, Some, None, refl, sym, ap, ◌∙◌, subst, append-nil, length-append, arith}
 use Rattle.std.specs.Prelude.{slice_get, nat_lt}
 use Rattle.std.proofs.lemmas.Bool.Decides.{nat_tests}
 use Rattle.tb_prim.specs.declared.event.Event.{Event}
 use Rattle.tb_prim.specs.declared.event.Stop.{Stop}
-use Rattle.tb_semantics.specs.Runs.{Machine, Appends, EmitsInOrder, Ends, Keeps, run, after}
+use Rattle.tb_semantics.specs.Runs.{Appends, EmitsInOrder, Ends, after}
 use Rattle.tb_semantics.proofs.SameEnd.{same_end-keeps}
-use Rattle.tb_core.specs.Tree.{Tree, Trees, none, more, tree_at}
+use Rattle.tb_core.specs.Tree.{Trees, tree_at}
 use Rattle.tb_core.specs.OperandOrder.{order_of}
 use Rattle.tb_core.specs.Store.{Unspecified}
-use Rattle.tb_core.specs.Reference.{Context, reference, start_of}
+use Rattle.tb_core.specs.Reference.{reference, start_of}
 use Rattle.tb_core.proofs.Steps.{in_order}
 use Rattle.tb_macm.specs.declared.code.Instr.{Instr}
 use Rattle.tb_macm.specs.declared.code.Instr.TheVariants.{Save, End}
@@ -19,7 +19,7 @@ use Rattle.tb_macm.specs.MacEvents.{MacState, Going, Halted, next, next_state, w
 use Rattle.tb_twobit.specs.Generate.{codes, program_of, program_code, program_places}
 use Rattle.tb_twobit.specs.SmallForms.{FormsFrom}
 use Rattle.tb_twobit.specs.Compiled.{IsOver, Compiles}
-use Rattle.tb_twobit.proofs.Steps.{Leads, one, then}
+use Rattle.tb_twobit.proofs.Steps.{one, then}
 use Rattle.tb_twobit.proofs.ListLaws.{stands_all}
 use Rattle.tb_twobit.proofs.MacRun.{performs}
 use Rattle.tb_twobit.proofs.PlacesFound.{all_found}
@@ -71,13 +71,15 @@ mac_ends es f heap h =
     let P = program_places es in
     let x = small_context es in
     let r : ComesToEnd C P (push_frame 0 (mac_start heap)) [] (length (codes es) + 1) (final_events es) =
-      forms_end C P x es (all_built es f) (all_have_words 0 es f) (push_frame 0 (mac_start heap)) [] 1 refl refl (stands_all C).1 (all_found x es (all_built es f) 1) in
+    forms_end C P x es (all_built es f) (all_have_words 0 es f) (push_frame 0 (mac_start heap)) [] 1 refl refl (stands_all C).1 (all_found x es (all_built es f) 1) in
     let path = then (next C P) 1 r.2 _ _ _ (one (next C P) _ _ (first_step C P heap h refl)) r.5 in
     let few : r.2 ≤ length (codes es) + 1 = r.3 in
-    let size : length (codes es ++ End ∷ []) ≡ length (codes es) + 1 = length-append (codes es) (End ∷ []) in
-    (1 + r.2, omega arith,
+    let size : length (codes es ++ End ∷ []) ≡ length (codes es) + 1 = length-append (codes es) (End ∷ []) in (
+      1 + r.2,
+      omega arith,
       record { emitted = ap events_of path.leads; still = ap (next C P) path.leads ∙ sym path.leads },
-      subst IsOver (sym path.leads) r.4)
+      subst IsOver (sym path.leads) r.4,
+    )
 
 -- so does the reference machine
 ReferenceEnds : Trees → List ℕ → Type 0

@@ -1,5 +1,5 @@
 -- Constants whose 32 bits stand for them.
-use Rattle.std.specs.Prelude.{ℕ, suc, ◌<◌, ◌^◌, ℤ, pos, negsuc}
+use Rattle.std.specs.Prelude.{◌<◌, ◌^◌, ℤ, pos, negsuc}
 use Rattle.tb_prim.specs.declared.constant.Const.{Const}
 use Rattle.tb_prim.specs.declared.primitive.Primitive.TheVariants.{WriteChar}
 use Rattle.tb_core.specs.Tree.{Tree, Node, Form, Quote, PrimUse, Trees, none, more}

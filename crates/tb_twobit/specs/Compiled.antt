@@ -8,7 +8,7 @@ use Rattle.tb_core.specs.Reference.{reference}
 use Rattle.tb_macm.specs.declared.code.Instr.{Instr}
 use Rattle.tb_macm.specs.declared.code.PlaceEntry.{PlaceEntry}
 use Rattle.tb_macm.specs.Rules.{InstrOk, failing_from}
-use Rattle.tb_macm.specs.MacEvents.{MacState, Going, Halted, mac_machine}
+use Rattle.tb_macm.specs.MacEvents.{MacState, Halted, mac_machine}
 
 -- a run that has come to its end, or failed
 abbrev pub IsOver : MacState → Type 0

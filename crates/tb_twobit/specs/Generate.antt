@@ -1,8 +1,7 @@
 -- The code of the forms built so far: each expression leaves its value in RESULT.
-use Rattle.std.specs.Prelude.{ℕ, suc, ◌+◌, ◌-◌, ◌*◌, ◌^◌, ℤ, pos, negsuc, Bool, true, false, List, [], ◌∷◌, ◌++◌, length, replicate}
+use Rattle.std.specs.Prelude.{ℕ, suc, ◌+◌, ◌-◌, ◌*◌, ◌^◌, ℤ, pos, negsuc, Bool, true, false, List, [], ◌∷◌, ◌++◌, length}
 use Rattle.tb_prim.specs.declared.place.Place.{Place}
 use Rattle.tb_prim.specs.declared.constant.Const.{Const}
-use Rattle.tb_prim.specs.declared.primitive.Primitive.{Primitive}
 use Rattle.tb_prim.specs.declared.primitive.Primitive.TheVariants.{WriteChar}
 use Rattle.tb_core.specs.Tree.{Tree, Node, Form, Quote, PrimUse, Trees, none, more, ProgramTree}
 use Rattle.tb_macm.specs.declared.code.Instr.{Instr}

@@ -7,3 +7,6 @@ pub mod SmallGrammar
 pub mod Bits
 pub mod SmallReading
 pub mod SmallCursors
+pub mod Statuses
+pub mod GoDoes
+pub mod Finish

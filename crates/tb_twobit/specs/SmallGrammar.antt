@@ -46,7 +46,7 @@ pub data IsText : Place → ℕ → List ℕ → Trees → Type 0 where
       AreBlanks front → AreBlanks inside → AreBlanks between → between ≢ [] → Character c b → AreBlanks last →
       IsText (behind_all p (spelled front inside between c last)) (k + 2) rest es →
       IsText p k (spelled front inside between c last ++ rest)
-        (more (write_tree (behind_all p front) (behind_all p (front ++ before_character inside between)) k b) es)
+      (more (write_tree (behind_all p front) (behind_all p (front ++ before_character inside between)) k b) es)
 
 -- a source text is accepted with these forms: it spells them, and they are at most 1,000
 pub record IsAccepted (bytes : List ℕ) (es : Trees) : Type 0 where

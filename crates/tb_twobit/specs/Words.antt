@@ -1,5 +1,5 @@
 -- The words of the command line, and what they ask for.
-use Rattle.std.specs.Prelude.{ℕ, ◌+◌, ◌-◌, ◌*◌, ◌^◌, ◌==◌, ◌&&◌, nat_lt, nat_le, Bool, true, false, cond, List, [], ◌∷◌, length, map, fold, Option, Some, None, codes, bytes_eq, slice_index_or}
+use Rattle.std.specs.Prelude.{ℕ, ◌+◌, ◌-◌, ◌*◌, ◌^◌, ◌==◌, ◌&&◌, nat_lt, nat_le, Bool, cond, List, [], length, fold, Option, Some, None, codes, bytes_eq, slice_index_or}
 use Rattle.std.specs.List.{list_all}
 
 -- the number that decimal digits stand for
@@ -13,7 +13,7 @@ is_digit d = nat_le 48 d && nat_le d 57
 abbrev pub number_of : List ℕ → Option ℕ
 number_of w =
     cond (nat_le 1 (length w) && nat_le (length w) 20)
-      (cond (list_all is_digit w) (cond (nat_lt (digits_value w) (2 ^ 64)) (Some (digits_value w)) None) None) None
+    (cond (list_all is_digit w) (cond (nat_lt (digits_value w) (2 ^ 64)) (Some (digits_value w)) None) None) None
 
 -- `go`: the name of the source file, the words of the heap, and the bound on the steps
 pub record Go : Type 0 where
@@ -39,5 +39,5 @@ is_go_mac go machine = bytes_eq go (codes "go") && bytes_eq machine (codes "mac"
 abbrev pub command_of : List (List ℕ) → Option Go
 command_of ws =
     cond (length ws == 5)
-      (cond (is_go_mac (slice_index_or ws 0 []) (slice_index_or ws 1 []))
-        (go_with (slice_index_or ws 2 []) (number_of (slice_index_or ws 3 [])) (number_of (slice_index_or ws 4 []))) None) None
+    (cond (is_go_mac (slice_index_or ws 0 []) (slice_index_or ws 1 []))
+    (go_with (slice_index_or ws 2 []) (number_of (slice_index_or ws 3 [])) (number_of (slice_index_or ws 4 []))) None) None

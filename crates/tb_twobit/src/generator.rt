@@ -31,7 +31,11 @@ fn bits(constant: Const) -> u32
     ensures { result ≡ bits_of constant }
 {
     match constant {
-        Const::Fix(n) => if n < 0 { u32::MAX - 3 - (-(n + 1)) as u32 * 4 } else { n as u32 * 4 },
+        Const::Fix(n) => if n < 0 {
+            u32::MAX - 3 - (-(n + 1)) as u32 * 4
+        } else {
+            n as u32 * 4
+        },
         Const::Char(c) => 256 * u32::from(c) + 10,
         Const::Bool(true) => 258,
         Const::Bool(false) => 2,
@@ -103,7 +107,10 @@ fn maps(alloc: Global, count: usize) -> Result<Vec<LiveMap>, NoMemory>
 {
     let mut maps = Vec::new(alloc);
     for _ in 0..count {
-        maps.push(LiveMap { regs: 0, slots: None })?;
+        maps.push(LiveMap {
+            regs: 0,
+            slots: None,
+        })?;
     }
     Ok(maps)
 }

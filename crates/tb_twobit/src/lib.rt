@@ -2,7 +2,13 @@
 #![tactic(auto)]
 
 mod generator;
+mod go;
+mod lines;
+mod run;
 mod small_reader;
+mod status;
+mod top;
 mod words;
 
-pub use words::{Command, asked_for};
+pub use status::Status;
+pub use top::twobit;

@@ -41,7 +41,11 @@ fn go<'a>(source: &'a str, heap: u64, steps: u64) -> Option<Command<'a>>
     if source.is_empty() || heap < HEAP_WORDS.0 || heap > HEAP_WORDS.1 {
         None
     } else {
-        Some(Command::Go { source, heap: heap as u32, steps })
+        Some(Command::Go {
+            source,
+            heap: heap as u32,
+            steps,
+        })
     }
 }
 
@@ -80,5 +84,7 @@ fn value(digits: &[u8]) -> Option<u64>
 fn with_digit(number: u64, digit: u8) -> Option<u64>
     ensures { SomeIff result (number * 10 + (digit - 48) < 2 ^ 64) (number * 10 + (digit - 48)) }
 {
-    number.checked_mul(10)?.checked_add(u64::from(digit.saturating_sub(b'0')))
+    number
+        .checked_mul(10)?
+        .checked_add(u64::from(digit.saturating_sub(b'0')))
 }

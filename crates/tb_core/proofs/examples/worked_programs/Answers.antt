@@ -16,6 +16,9 @@ returns c = record {
   reads = (30, refl);
   complex_first = (30, refl);
   assigned_in_order = (30, refl);
+  mixed_operands = (60, refl);
+  applied_number = (30, refl);
+  applied_to_number = (30, refl);
   failure_after_output = (30, refl);
   letrec_closures = (40, refl);
 }

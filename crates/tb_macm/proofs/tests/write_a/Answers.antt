@@ -1,4 +1,4 @@
-use Rattle.std.proofs.Common.{◌≡◌, ℕ, ◌≤◌, ◌<◌, List, [], ◌∷◌, refl, subst, sym, ◌∙◌, lit<, lit≤, rules}
+use Rattle.std.proofs.Common.{◌≡◌, List, [], ◌∷◌, refl, subst, sym, ◌∙◌, lit<, lit≤}
 use Rattle.std.proofs.lemmas.List.Elements.{All-cons, All-nil}
 use Rattle.tb_prim.specs.declared.place.Place.{Place}
 use Rattle.tb_macm.specs.declared.code.Instr.{Instr}
@@ -15,9 +15,9 @@ keeps parts a b c place empty p q r = record {
   some = lit≤ tt;
   few = lit< tt;
   fields = let first : InstrOk 3 (Imm 1 24842) = (lit≤ tt, refl) in
-    let second : InstrOk 3 (Op1 16 1 42) = (lit≤ tt, lit≤ tt, refl) in
-    All-cons (InstrOk 3) (Imm 1 24842) (Op1 16 1 42 ∷ End ∷ []) first
-    (All-cons (InstrOk 3) (Op1 16 1 42) (End ∷ []) second (All-cons (InstrOk 3) End [] tt (All-nil (InstrOk 3))));
+      let second : InstrOk 3 (Op1 16 1 42) = (lit≤ tt, lit≤ tt, refl) in
+      All-cons (InstrOk 3) (Imm 1 24842) (Op1 16 1 42 ∷ End ∷ []) first
+      (All-cons (InstrOk 3) (Op1 16 1 42) (End ∷ []) second (All-cons (InstrOk 3) End [] tt (All-nil (InstrOk 3))));
   mapped = refl;
   each_map = All-cons MapOk a (b ∷ c ∷ []) p (All-cons MapOk b (c ∷ []) q (All-cons MapOk c [] r (All-nil MapOk)));
   placed = refl;

@@ -16,7 +16,7 @@ pub returns-in-Stopped-clause-does : goal.returns-in-Stopped-clause-does
 returns-in-Stopped-clause-does g c =
     let i = c.loop-made.invariant in
     let d = same_code _ _ _ _ _ _ _ _ _ _ (Step.Stopped c.in-Stopped.stop) i.code i.places c.in-Stopped.ensures.does in
-    run_stopped c.args.self.now.code c.args.self.now.places c.args.self.now.mac c.loop-made.self.mac c.step.new.self.mac c.loop-made.made c.args.steps _ _ _ _ _ _ c.in-Stopped.stop i.running c.loop-made-test.true i.later d
+    run_stopped c.args.self.now.code c.args.self.now.places c.args.self.now.mac c.loop-made.self.mac c.step.new.self.mac c.loop-made._made c.args.steps _ _ _ _ _ _ c.in-Stopped.stop i.running c.loop-made-test.true i.later d
 
 pub loop-made-preserved : goal.loop-made-preserved
 loop-made-preserved g c =
@@ -24,7 +24,7 @@ loop-made-preserved g c =
     let e = c.in-Went.ensures in
     let d = same_code _ _ _ _ _ _ _ _ 0 0 (Step.Went c.in-Went._event) i.code i.places e.does in
     record {
-      running = running_step c.args.self.now.code c.args.self.now.places c.args.self.now.mac c.loop-made.self.mac c.step.new.self.mac c.loop-made.made _ _ _ c.in-Went._event i.running d.0 d.1;
+      running = running_step c.args.self.now.code c.args.self.now.places c.args.self.now.mac c.loop-made.self.mac c.step.new.self.mac c.loop-made._made _ _ _ c.in-Went._event i.running d.0 d.1;
       code = e.code ∙ i.code;
       places = e.places ∙ i.places;
       later = omega (arith, i.later, e.later);

@@ -1,0 +1,5 @@
+pub mod Lists
+pub mod Numbers
+pub mod Progress
+pub mod Run
+pub mod Values

@@ -1,0 +1,99 @@
+-- What the command `go` does: its status, the bytes that it adds to `out` and the lines on `diag`.
+use Rattle.std.specs.Prelude.{◌≡◌, ℕ, ◌≤◌, ◌<◌, ◌⊎◌, List, [], ◌++◌, length, take, Option, Some, IfSome}
+use Rattle.tb_prim.specs.declared.place.Place.{Place}
+use Rattle.tb_prim.specs.declared.event.Cause.{Cause}
+use Rattle.tb_prim.specs.declared.event.Event.{Event}
+use Rattle.tb_prim.specs.declared.event.Stop.{Stop}
+use Rattle.tb_base.specs.Outside.{Rose, IsLonger}
+use Rattle.tb_semantics.specs.Runs.{after}
+use Rattle.tb_core.specs.Tree.{Trees}
+use Rattle.tb_core.specs.OperandOrder.{order_of}
+use Rattle.tb_core.specs.Reference as ref
+use Rattle.tb_core.specs.Reference.{reference}
+use Rattle.tb_macm.specs.declared.code.Instr.{Instr}
+use Rattle.tb_macm.specs.declared.code.PlaceEntry.{PlaceEntry}
+use Rattle.tb_macm.specs.MacStep.{Mac}
+use Rattle.tb_macm.specs.MacEvents as mac
+use Rattle.tb_macm.specs.MacEvents.{MacState, Going, Halted, mac_machine, puts}
+use Rattle.tb_twobit.specs.Words.{Go}
+use Rattle.tb_twobit.specs.Generate.{program_of}
+use Rattle.tb_twobit.specs.Compiled.{Compiles}
+use Rattle.tb_twobit.specs.SmallGrammar.{IsAccepted}
+use Rattle.tb_twobit.specs.Statuses.{refused_line, failed_line}
+
+-- a sink before a call and after it: the bytes held, where it tells them, and its count of faults
+pub record Sunk : Type 0 where
+  pub before : Option (List ℕ)
+  pub now : Option (List ℕ)
+  pub faults : ℕ
+  pub faults_now : ℕ
+
+-- a sink was given these bytes
+abbrev pub Gained : Sunk → List ℕ → Type 0
+Gained s bytes = IfSome s.before (λ held. s.now ≡ Some (held ++ bytes))
+
+-- a sink was given this line, or a front of it where its count rose
+abbrev pub Said : Sunk → List ℕ → Type 0
+Said s line = Gained s line ⊎ ((n : ℕ) × Gained s (take n line) × Rose s.faults s.faults_now)
+
+-- the most bytes of a source file
+abbrev pub source_limit : ℕ
+source_limit = 4194304
+
+-- how a run ends, with its status: `taken` steps were made and led to `state`
+pub data RunEnds (state : MacState) (taken steps : ℕ) (out diag : Sunk) : ℕ → Type 0 where
+  -- status 0 where the events end with End
+  ended : {m : Mac} {es : List Event} → state ≡ Halted m Stop.End es → Gained diag [] → RunEnds state taken steps out diag 0
+  -- status 4 only where the count of `out` rose
+  not_put : {m : Mac} {es : List Event} → state ≡ Going m es → taken < steps → Rose out.faults out.faults_now → Gained diag [] → RunEnds state taken steps out diag 4
+  -- status 6 where the events end with Fail, of this cause and place
+  failed : {m : Mac} {es : List Event} (c : Cause) (p : Place) → state ≡ Halted m (Stop.Fail c p) es → Said diag (failed_line c p) → RunEnds state taken steps out diag 6
+  -- status 8 where the steps were made without another stop
+  out_of_steps : {m : Mac} {es : List Event} → state ≡ Going m es → taken ≡ steps → Gained diag [] → RunEnds state taken steps out diag 8
+
+-- a run of code that keeps the reference machine: the events emitted are the reference's at some moment, and
+-- the bytes added to `out` are those that they put
+pub record Runs (go : Go) (forms : Trees) (out diag : Sunk) (status : ℕ) : Type 0 where
+  pub code : List Instr
+  pub places : List PlaceEntry
+  pub compiled : Compiles (program_of forms) code places
+  pub taken : ℕ
+  pub within : taken ≤ go.steps
+  pub moment : ℕ
+  pub like_reference : mac.events_of (after (mac_machine code places go.heap) taken) ≡ ref.events_of (after (reference (program_of forms) (order_of (program_of forms)) []) moment)
+  pub put : Gained out (puts (mac.events_of (after (mac_machine code places go.heap) taken)))
+  pub ends : RunEnds (after (mac_machine code places go.heap) taken) taken go.steps out diag status
+
+-- what code that keeps the reference machine of these forms does: it runs, or there is no memory for its heap
+pub data CodeDoes (go : Go) (forms : Trees) (out diag : Sunk) : ℕ → Type 0 where
+  no_heap : Gained out [] → Gained diag [] → CodeDoes go forms out diag 5
+  code_ran : {status : ℕ} → Runs go forms out diag status → CodeDoes go forms out diag status
+
+-- a store holds these bytes under a name, where it tells what it holds
+abbrev pub HasFile : Option (List ℕ → Option (List ℕ)) → List ℕ → List ℕ → Type 0
+HasFile files name bytes = IfSome files (λ f. f name ≡ Some bytes)
+
+-- the bytes that it holds under a name are too many
+abbrev pub HasLongFile : Option (List ℕ → Option (List ℕ)) → List ℕ → Type 0
+HasLongFile files name = IfSome files (λ f. IsLonger (f name) source_limit)
+
+-- what a text does, whichever the store: it is refused, or run, or there is no memory
+pub data TextDoes (go : Go) (bytes : List ℕ) (out diag : Sunk) : ℕ → Type 0 where
+  text_refused : ((forms : Trees) → IsAccepted bytes forms → ⊥) → Gained out [] → Said diag refused_line → TextDoes go bytes out diag 1
+  text_no_memory : Gained out [] → Gained diag [] → TextDoes go bytes out diag 5
+  text_ran : {status : ℕ} (forms : Trees) → IsAccepted bytes forms → Runs go forms out diag status → TextDoes go bytes out diag status
+
+-- what `go` does, with the files of the store and its counts of failed loads of the source file
+pub data GoDoes (go : Go) (files : Option (List ℕ → Option (List ℕ))) (loads loads_now : ℕ) (out diag : Sunk) : ℕ → Type 0 where
+  -- status 3 only where the count of loads of the name rose
+  not_loaded : Rose loads loads_now → Gained out [] → Gained diag [] → GoDoes go files loads loads_now out diag 3
+  -- status 5 is want of memory, while reading, compiling or loading
+  no_memory : Gained out [] → Gained diag [] → GoDoes go files loads loads_now out diag 5
+  -- status 11 where the file is longer than the limit
+  too_long : HasLongFile files go.source → Gained out [] → Gained diag [] → GoDoes go files loads loads_now out diag 11
+  -- status 1 where the text is outside the grammar
+  refused : (bytes : List ℕ) → HasFile files go.source bytes → length bytes ≤ source_limit → ((forms : Trees) → IsAccepted bytes forms → ⊥) →
+      Gained out [] → Said diag refused_line → GoDoes go files loads loads_now out diag 1
+  -- the others come from a run of the file's program
+  ran : {status : ℕ} (bytes : List ℕ) (forms : Trees) → HasFile files go.source bytes → length bytes ≤ source_limit → IsAccepted bytes forms →
+      Runs go forms out diag status → GoDoes go files loads loads_now out diag status

@@ -1,0 +1,50 @@
+-- The statuses in which a call ends, and the lines that go with them.
+use Rattle.std.specs.Prelude.{ℕ, Bool, true, false, List, [], ◌∷◌, ◌++◌, codes, decimal}
+use Rattle.tb_prim.specs.declared.place.Place.{Place}
+use Rattle.tb_prim.specs.declared.event.Cause.{Cause}
+use Rattle.tb_twobit.specs.declared.status.Status.{Status}
+use Rattle.tb_twobit.specs.declared.status.Status.TheVariants.{Done, Refused, Usage, NotLoaded, NotPut, NoMemory, Failed, Full, OutOfSteps, Stuck, TooLong}
+
+-- the number of a status
+abbrev pub number : Status → ℕ
+number Done = 0
+number Refused = 1
+number Usage = 2
+number NotLoaded = 3
+number NotPut = 4
+number NoMemory = 5
+number Failed = 6
+number Full = 7
+number OutOfSteps = 8
+number Stuck = 10
+number TooLong = 11
+
+-- the number of a cause
+abbrev pub cause_number : Cause → ℕ
+cause_number Cause.NotProcedure = 1
+cause_number Cause.WrongArgs = 2
+cause_number Cause.WrongType = 3
+cause_number Cause.Overflow = 4
+cause_number Cause.Range = 5
+cause_number Cause.ZeroDivide = 6
+cause_number Cause.Undefined = 7
+cause_number Cause.TooMany = 8
+
+-- some texts, one after another
+abbrev pub joined : List (List ℕ) → List ℕ
+joined [] = []
+joined (t ∷ ts) = t ++ joined ts
+
+-- `lib ` stands before a place in the library
+abbrev pub library_text : Bool → List ℕ
+library_text true = codes "lib "
+library_text false = []
+
+-- the line of a text that is refused as a whole
+abbrev pub refused_line : List ℕ
+refused_line = codes "refused 115 1:1" ++ 10 ∷ []
+
+-- the line of a run that failed: its cause, and its place as LINE:COLUMN
+abbrev pub failed_line : Cause → Place → List ℕ
+failed_line c p =
+    joined (codes "failed " ∷ decimal (cause_number c) ∷ codes " " ∷ library_text p.library ∷ decimal p.line ∷ codes ":" ∷ decimal p.column ∷ (10 ∷ []) ∷ [])
