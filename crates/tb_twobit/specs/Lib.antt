@@ -5,7 +5,8 @@ pub mod Compiled
 pub mod SmallForms
 pub mod SmallGrammar
 pub mod Bits
+pub mod SmallReading
+pub mod SmallCursors
 pub mod Statuses
 pub mod GoDoes
 pub mod Finish
-pub mod SmallReading
