@@ -1,15 +1,15 @@
 -- What is left of a text behind blanks, words and characters.
-use Rattle.std.proofs.Common.{◌≡◌, ◌≢◌, ◌⊎◌, inl, inr, ℕ, zero, suc, ◌+◌, ◌<◌, Bool, true, false, cond, List, [], ◌∷◌, ◌++◌, length, take, drop, get_or, Option, Some, None, refl, sym, ap, ◌∙◌, subst, arith, append_assoc, one-add, ◌&&◌}
-use Rattle.std.specs.Prelude.{nat_eq, nat_lt, codes}
+use Rattle.std.proofs.Common.{◌≡◌, ◌≢◌, ℕ, suc, ◌+◌, Bool, true, false, cond, List, [], ◌∷◌, ◌++◌, length, take, drop, Some, None, refl, sym, ap, ◌∙◌, subst, arith, append_assoc, one-add, ◌&&◌}
+use Rattle.std.specs.Prelude.{nat_eq, nat_lt}
 use Rattle.std.specs.List.{prefix_len, starts_with, list_all}
-use Rattle.std.proofs.lemmas.List.{take-append-drop, take_at, drop_at, get_or-append-add}
+use Rattle.std.proofs.lemmas.List.{take-append-drop, take_at, drop_at}
 use Rattle.std.proofs.lemmas.List.Folds.{length-prefix_len}
-use Rattle.std.proofs.lemmas.Option.{cond_some, same_Some}
+use Rattle.std.proofs.lemmas.Option.{cond_some}
 use Rattle.std.proofs.lemmas.Slice.Eq.{starts_is}
 use Rattle.std.proofs.lemmas.Bool.Decides.{Decides-eqb}
 use Rattle.tb_prim.specs.declared.place.Place.{Place}
-use Rattle.tb_twobit.specs.SmallGrammar.{behind, behind_all, is_blank, AreBlanks, Character, one_byte, space, newline}
-use Rattle.tb_twobit.specs.SmallReading.{Left, behind_first, behind_blanks, behind_word, CharacterAt, first_byte, byte_at, named, character_at}
+use Rattle.tb_twobit.specs.SmallGrammar.{behind, behind_all, is_blank, AreBlanks}
+use Rattle.tb_twobit.specs.SmallReading.{Left, behind_first, behind_blanks, behind_word}
 
 abbrev pub left : Place → List ℕ → Left
 left p bs = record { place = p; rest = bs }

@@ -1,11 +1,10 @@
 -- The forms that a text spells are found in it.
-use Rattle.std.proofs.Common.{◌≡◌, ◌≢◌, ◌⊎◌, inl, inr, ℕ, zero, suc, ◌+◌, ◌<◌, ◌≤◌, ◌&&◌, Bool, true, false, cond, List, [], ◌∷◌, ◌++◌, length, take, get_or, Option, Some, None, refl, sym, ap, ◌∙◌, subst, arith, append_assoc, append-nil, map}
+use Rattle.std.proofs.Common.{◌≡◌, ◌≢◌, ◌⊎◌, inl, inr, ℕ, ◌+◌, ◌&&◌, Bool, true, false, cond, List, [], ◌∷◌, ◌++◌, length, Option, Some, None, refl, sym, ap, ◌∙◌, subst, arith, append_assoc, append-nil}
 use Rattle.std.specs.Prelude.{nat_lt, codes}
 use Rattle.std.specs.List.{prefix_len, list_all}
 use Rattle.std.proofs.lemmas.Bool.{lt-ltb}
 use Rattle.tb_prim.specs.declared.place.Place.{Place}
-use Rattle.tb_core.specs.Tree.{Tree, Trees, none, more, count}
-use Rattle.tb_core.specs.View.{trees}
+use Rattle.tb_core.specs.Tree.{Trees, none, more}
 use Rattle.tb_twobit.specs.SmallForms.{write_tree}
 use Rattle.tb_twobit.specs.SmallGrammar.{behind_all, is_blank, AreBlanks, Character, one_byte, space, newline, before_character, spelled, IsText, no_more, one_more}
 use Rattle.tb_twobit.specs.SmallReading.{Left, behind_blanks, behind_word, CharacterAt, character_at, FormAt, operand_at, form_at, ◌>>=◌}
@@ -17,7 +16,8 @@ ends_name : (last rest : List ℕ) → AreBlanks last → EndsName (last ++ 41 �
 ends_name [] rest h = (λ (e : ◌≡◌ {A = ℕ} 41 112). omega arith, λ (e : ◌≡◌ {A = ℕ} 41 101). omega arith)
 ends_name (b ∷ bs) rest h = (
   λ (e : b ≡ 112). let no : ◌≡◌ {A = Bool} false true = subst (λ n. (is_blank n && list_all is_blank bs) ≡ true) e h in cc,
-  λ (e : b ≡ 101). let no : ◌≡◌ {A = Bool} false true = subst (λ n. (is_blank n && list_all is_blank bs) ≡ true) e h in cc)
+  λ (e : b ≡ 101). let no : ◌≡◌ {A = Bool} false true = subst (λ n. (is_blank n && list_all is_blank bs) ≡ true) e h in cc,
+)
 
 operand_passed : (p : Place) {s : List ℕ} {b : ℕ} (last rest : List ℕ) → Character s b → AreBlanks last →
     operand_at (left p (s ++ (last ++ 41 ∷ rest))) ≡ Some (record { operand = p; character = b; behind = left (behind_all p (s ++ (last ++ 41 ∷ []))) rest })
@@ -32,8 +32,8 @@ operand_passed p {s} {b} last rest character blanks =
     let place : behind_all q (41 ∷ []) ≡ behind_all p (s ++ (last ++ 41 ∷ [])) = sym (behind_all-append p s (last ++ 41 ∷ []) ∙ behind_all-append (behind_all p s) last (41 ∷ [])) in
     let made = λ (y : Left). Some (record { operand = p; character = b; behind = y }) in
     bind_at (character_at (left p (s ++ ys))) (λ (d : CharacterAt). behind_word (codes ")") (behind_blanks d.behind) >>= (λ (y : Left). Some (record { operand = p; character = d.character; behind = y }))) c _ found
-      (bind_at (behind_word (codes ")") (behind_blanks c.behind)) made (left (behind_all q (41 ∷ [])) rest) _ (ap (λ x. behind_word (codes ")") x) passed ∙ close)
-        (ap (λ r. made (left r rest)) place))
+    (bind_at (behind_word (codes ")") (behind_blanks c.behind)) made (left (behind_all q (41 ∷ [])) rest) _ (ap (λ x. behind_word (codes ")") x) passed ∙ close)
+    (ap (λ r. made (left r rest)) place))
 
 no_blank : {s : List ℕ} {b : ℕ} (ys : List ℕ) → Character s b → prefix_len is_blank (s ++ ys) ≡ 0
 no_blank ys (one_byte small) = refl
@@ -68,12 +68,12 @@ module _ (p : Place) (inside between last rest : List ℕ) where
       let place : p4 ≡ behind_all p before = sym (behind_all-append p1 inside (codes "write-char" ++ between) ∙ behind_all-append p2 (codes "write-char") between) in
       let end : operand_at (left p4 t) ≡ Some (record { operand = p4; character = b; behind = left (behind_all p4 e) rest }) = operand_passed p4 last rest character blanks_last in
       let moved : ◌≡◌ {A = Option FormAt} (Some (record { operand = p4; character = b; behind = left (behind_all p4 e) rest })) (Some (record { operand = behind_all p before; character = b; behind = left (behind_all p (before ++ e)) rest })) =
-            ap (λ q. Some (record { operand = q; character = b; behind = left (behind_all q e) rest })) place ∙
-            ap (λ q. Some (record { operand = behind_all p before; character = b; behind = left q rest })) (sym (behind_all-append p before e)) in
+      ap (λ q. Some (record { operand = q; character = b; behind = left (behind_all q e) rest })) place ∙
+      ap (λ q. Some (record { operand = behind_all p before; character = b; behind = left q rest })) (sym (behind_all-append p before e)) in
       ap (λ r. form_at (left p r)) bytes ∙
       bind_at (behind_word (codes "(") (left p (codes "(" ++ (inside ++ (codes "write-char" ++ (between ++ t)))))) name_step (left p1 (inside ++ (codes "write-char" ++ (between ++ t)))) _ open_found
-        (bind_at (behind_word (codes "write-char") (behind_blanks (left p1 (inside ++ (codes "write-char" ++ (between ++ t)))))) last_step (left p3 (between ++ t)) _ (ap (λ x. behind_word (codes "write-char") x) inside_passed ∙ name_found)
-          (ap (λ v. cond v (operand_at (behind_blanks (left p3 (between ++ t)))) None) some_blanks ∙ (ap operand_at between_passed ∙ (end ∙ moved))))
+      (bind_at (behind_word (codes "write-char") (behind_blanks (left p1 (inside ++ (codes "write-char" ++ (between ++ t)))))) last_step (left p3 (between ++ t)) _ (ap (λ x. behind_word (codes "write-char") x) inside_passed ∙ name_found)
+      (ap (λ v. cond v (operand_at (behind_blanks (left p3 (between ++ t)))) None) some_blanks ∙ (ap operand_at between_passed ∙ (end ∙ moved))))
 
 -- the first form that is left, and what is left behind it
 pub record NextForm (x : Left) (k : ℕ) (es : Trees) : Type 0 where

@@ -1,16 +1,15 @@
 -- The forms that reading finds are those that a text spells, and those that it spells are found.
-use Rattle.std.proofs.Common.{◌≡◌, ◌≢◌, ◌⊎◌, inl, inr, ℕ, zero, suc, ◌+◌, ◌<◌, ◌≤◌, Bool, true, false, cond, List, [], ◌∷◌, ◌++◌, length, take, get_or, Option, Some, None, refl, sym, ap, ◌∙◌, subst, arith, append_assoc, append-nil}
+use Rattle.std.proofs.Common.{◌≡◌, ◌≢◌, ℕ, ◌+◌, ◌<◌, Bool, true, false, cond, List, [], ◌∷◌, ◌++◌, Option, Some, None, refl, sym, ap, ◌∙◌, subst, arith, append-nil}
 use Rattle.std.specs.Prelude.{nat_lt, codes}
 use Rattle.std.specs.List.{prefix_len}
-use Rattle.std.proofs.lemmas.Option.{cond_some, same_Some}
+use Rattle.std.proofs.lemmas.Option.{same_Some}
 use Rattle.tb_prim.specs.declared.place.Place.{Place}
-use Rattle.tb_core.specs.Tree.{Tree, Trees, none, more, count}
-use Rattle.tb_core.specs.View.{trees}
+use Rattle.tb_core.specs.Tree.{Trees, none, more}
 use Rattle.tb_twobit.specs.SmallForms.{write_tree, FormsFrom, no_forms, form}
 use Rattle.tb_twobit.specs.SmallGrammar.{behind_all, is_blank, AreBlanks, Character, one_byte, space, newline, before_character, spelled, IsText, no_more, one_more}
 use Rattle.tb_twobit.specs.SmallReading.{Left, behind_blanks, behind_word, CharacterAt, character_at, FormAt, operand_at, form_at, ◌>>=◌}
-use Rattle.tb_twobit.proofs.SmallLeft.{left, Over, over_more, blanks_of, blanks_over, blanks_are, blanks_some, blanks_passed, word_over, word_passed, behind_all-append, prefix_past}
-use Rattle.tb_twobit.proofs.SmallCharacters.{AreBytes, bytes_over, bind_found, bind_at, IsCharacter, character_is, EndsName, character_passed}
+use Rattle.tb_twobit.proofs.SmallLeft.{Over, over_more, blanks_of, blanks_over, blanks_are, blanks_some, word_over, behind_all-append}
+use Rattle.tb_twobit.proofs.SmallCharacters.{AreBytes, bytes_over, bind_found, character_is}
 
 -- what stands there ends a form of the grammar, from the character on
 pub record EndsForm (x : Left) (f : FormAt) : Type 0 where
@@ -94,8 +93,8 @@ form_found {k} x f {es} all h t =
     let before = before_character is.inside is.between in
     let operand : f.operand ≡ behind_all x.place (blanks_of x.rest ++ before) = is.operand ∙ (ap (λ p. behind_all p before) front.place ∙ sym (behind_all-append x.place (blanks_of x.rest) before)) in
     subst (λ r. IsText x.place k r (more (write_tree (behind_blanks x).place f.operand k f.character) es)) (sym over.rest)
-      (subst (λ q. IsText x.place k (bytes ++ f.behind.rest) (more (write_tree (behind_blanks x).place q k f.character) es)) (sym operand)
-        (subst (λ p. IsText x.place k (bytes ++ f.behind.rest) (more (write_tree p (behind_all x.place (blanks_of x.rest ++ before)) k f.character) es)) (sym front.place) all_of))
+    (subst (λ q. IsText x.place k (bytes ++ f.behind.rest) (more (write_tree (behind_blanks x).place q k f.character) es)) (sym operand)
+    (subst (λ p. IsText x.place k (bytes ++ f.behind.rest) (more (write_tree p (behind_all x.place (blanks_of x.rest ++ before)) k f.character) es)) (sym front.place) all_of))
 
 -- nothing but blanks spells no form
 pub end_found : {k : ℕ} (x : Left) → (behind_blanks x).rest ≡ [] → IsText x.place k x.rest none

@@ -206,7 +206,13 @@ fn read_form(cursor: Cursor) -> Option<Form>
 }
 
 /// The expression of a form at the place, with the number and the next one.
-fn write_form(alloc: Global, place: Place, site: u32, operand: Place, byte: u8) -> Result<Expr, SmallRefusal>
+fn write_form(
+    alloc: Global,
+    place: Place,
+    site: u32,
+    operand: Place,
+    byte: u8,
+) -> Result<Expr, SmallRefusal>
     requires { site < 2000 }
     ensures built { IfOk result (λ form. view form ≡ write_tree place operand site byte) }
     ensures only { result ≢ Err SmallRefusal.NotBuilt }

@@ -1,7 +1,7 @@
-use Rattle.std.proofs.Common.{◌≡◌, ◌≢◌, ℕ, ◌*◌, ◌<◌, ◌==◌, Bool, true, false, List, [], ◌∷◌, ◌++◌, length, map, Option, Some, None, refl, sym, ap, ◌∙◌, subst, arith, vec_len}
+use Rattle.std.proofs.Common.{◌≡◌, ◌≢◌, ℕ, ◌*◌, ◌<◌, ◌==◌, Bool, true, false, List, [], ◌∷◌, ◌++◌, length, map, Some, None, sym, ap, ◌∙◌, subst, arith, vec_len}
 use Rattle.std.proofs.lemmas.List.{length-map, nil_from_length, map-append}
 use Rattle.std.proofs.lemmas.Bool.Decides.{Decides-eqb}
-use Rattle.tb_core.specs.View.{view, trees}
+use Rattle.tb_core.specs.View.{view}
 use Rattle.tb_twobit.specs.SmallForms.{write_tree}
 use Rattle.tb_twobit.specs.SmallReading.{Left, behind_blanks, form_at, FormAt}
 use Rattle.tb_twobit.specs.SmallCursors.{left_of, form_of}
@@ -22,7 +22,7 @@ loop-start-init c = record {
   read =
       let start = start_read c.args.text.now (λ i. omega (arith, c.type_inv.text i)) in
       subst (λ ts. HasRead c.args.text.now (map view ts) (left_of c.start_of-cursor.result)) (sym c.new-forms.ensures.items)
-        (subst (λ x. HasRead c.args.text.now [] x) (sym c.start_of-cursor.ensures) start);
+      (subst (λ x. HasRead c.args.text.now [] x) (sym c.start_of-cursor.ensures) start);
 }
 
 pub returns-then-is_empty-clause-accepted : goal.returns-then-is_empty-clause-accepted
@@ -65,12 +65,12 @@ loop-start-preserved c =
     let read : form_at (behind_blanks x) ≡ Some f = ap form_at (sym c.behind_blanks-start.ensures) ∙ sym c.in-Some.ensures in
     let site : 2 * c.len-in-loop-start.result ≡ 2 * length ts = ap (λ n. 2 * n) (c.len-in-loop-start.ensures ∙ sym count) in
     let new : view c.in_ok-write_form.field-0 ≡ write_tree (behind_blanks x).place f.operand (2 * length ts) f.character =
-          c.in_ok-write_form.ensures.built ∙
-          (ap (λ n. write_tree c.behind_blanks-start.result.place f.operand n f.character) site ∙
-            ap (λ (y : Left). write_tree y.place f.operand (2 * length ts) f.character) c.behind_blanks-start.ensures) in
+    c.in_ok-write_form.ensures.built ∙
+    (ap (λ n. write_tree c.behind_blanks-start.result.place f.operand n f.character) site ∙
+    ap (λ (y : Left). write_tree y.place f.operand (2 * length ts) f.character) c.behind_blanks-start.ensures) in
     let pushed : map view c.push.new.self.items ≡ ts ++ write_tree (behind_blanks x).place f.operand (2 * length ts) f.character ∷ [] =
-          ap (λ es. map view es) c.in_ok-push.ensures.items ∙
-          (map-append view c.loop-start.forms.items (c.in_ok-write_form.field-0 ∷ []) ∙ ap (λ t. ts ++ t ∷ []) new) in
+    ap (λ es. map view es) c.in_ok-push.ensures.items ∙
+    (map-append view c.loop-start.forms.items (c.in_ok-write_form.field-0 ∷ []) ∙ ap (λ t. ts ++ t ∷ []) new) in
     record {
       few = omega (arith, c.in_ok-push.ensures.len);
       read = subst (λ us. HasRead c.args.text.now us f.behind) (sym pushed) (more_read c.args.text.now ts x f c.loop-start.invariant.read room some read);
