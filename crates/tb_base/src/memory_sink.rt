@@ -4,7 +4,7 @@ use std::alloc::Global;
 use std::marker::Model;
 use tb_prim::NoMemory;
 
-/// A sink in memory, of a capacity that is set when it is made.
+/// A sink in memory, with all the room that it will have. Its calls are numbered from 0, and some of them fail.
 #[derive(Debug, Drop)]
 pub struct MemSink {
     held: Vec<u8>,
@@ -19,7 +19,12 @@ impl Model for MemSink {
 
     ghost Value = { SinkState };
 
-    ghost view = { λ s. record { held = s.held.items; capacity = s.capacity; calls = s.calls; faults = s.faults } };
+    ghost view = { λ s. record {
+      held = s.held.items;
+      capacity = s.capacity;
+      calls = s.calls;
+      faults = s.faults;
+    } };
 
     ghost invariant = { λ s. (vec_len s.held ≤ s.capacity) × (s.capacity ≤ vec_capacity s.held) };
 }
@@ -70,10 +75,12 @@ impl Sink for MemSink {
         ensures bytes { Puts (Some self.old.held) (Some self.new.held) piece.now result }
         ensures cause { PutHasCause self.old.faults self.new.faults result }
 
-        ensures count { IfOk result (λ n. n ≡ min (length piece.now) (self.old.capacity - length self.old.held)) }
+        ensures count { IfOk result
+            (λ n. n ≡ min (length piece.now) (self.old.capacity - length self.old.held)) }
         ensures fails { IsErr result ↔ IsFailing self.old.calls }
         ensures counted { self.new.calls ≡ after_call self.old.calls }
-        ensures faults { self.new.faults ≡ (if count_put result == 0 then risen self.old.faults else self.old.faults) }
+        ensures faults { self.new.faults
+            ≡ (if count_put result == 0 then risen self.old.faults else self.old.faults) }
         ensures capacity { self.new.capacity ≡ self.old.capacity }
     {
         let fails = self.calls.is_next_failing();

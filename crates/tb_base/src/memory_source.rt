@@ -4,7 +4,7 @@ use std::alloc::Global;
 use std::marker::Model;
 use tb_prim::NoMemory;
 
-/// A source over bytes in memory.
+/// A source over bytes in memory. Its calls are numbered from 0, and some of them fail.
 #[derive(Debug, Drop)]
 pub struct MemSource {
     bytes: Vec<u8>,
@@ -19,7 +19,11 @@ impl Model for MemSource {
 
     ghost Value = { SourceState };
 
-    ghost view = { λ s. record { left = drop s.taken s.bytes.items; calls = s.calls; faults = s.faults } };
+    ghost view = { λ s. record {
+      left = drop s.taken s.bytes.items;
+      calls = s.calls;
+      faults = s.faults;
+    } };
 
     ghost invariant = { λ s. s.taken ≤ vec_len s.bytes };
 }
@@ -64,7 +68,8 @@ impl Source for MemSource {
         ensures count { IfOk result (λ n. n ≡ min (length buf.old) (length self.old.left)) }
         ensures fails { IsErr result ↔ IsFailing self.old.calls }
         ensures counted { self.new.calls ≡ after_call self.old.calls }
-        ensures faults { self.new.faults ≡ (if is_err result then risen self.old.faults else self.old.faults) }
+        ensures faults { self.new.faults
+            ≡ (if is_err result then risen self.old.faults else self.old.faults) }
     {
         if self.calls.is_next_failing() {
             self.faults = self.faults.saturating_add(1);

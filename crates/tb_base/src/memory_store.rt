@@ -6,7 +6,7 @@ use std::alloc::Global;
 use std::marker::Model;
 use tb_prim::{Bytes, NoMemory};
 
-/// A store in memory. It counts loads and saves together.
+/// A store in memory. Its calls are numbered from 0, loads and saves together, and some of them fail.
 #[derive(Debug, Drop)]
 pub struct MemStore {
     entries: Vec<Entry>,
@@ -20,7 +20,12 @@ impl Model for MemStore {
 
     ghost Value = { StoreState };
 
-    ghost view = { λ s. record { entries = s.entries.items; failed_loads = s.failed_loads.items; failed_saves = s.failed_saves.items; calls = s.calls } };
+    ghost view = { λ s. record {
+      entries = s.entries.items;
+      failed_loads = s.failed_loads.items;
+      failed_saves = s.failed_saves.items;
+      calls = s.calls;
+    } };
 }
 
 impl MemStore {
@@ -69,16 +74,23 @@ impl Store for MemStore {
 
     ghost save_faults = { λ s. fault_count s.failed_saves };
 
+    /// Fails where the number of the call is listed, or the name is missing.
     fn load(&mut self, alloc: Global, name: &str, limit: u64) -> Result<Vec<u8>, LoadFault>
         requires { limit < 2 ^ 63 }
         ensures bound { IfOk result (λ bytes. vec_len bytes ≤ limit) }
-        ensures does { LoadDoes (Some (file_of self.old.entries)) (Some (file_of self.new.entries)) name.now limit result }
-        ensures cause { LoadHasCause (fault_count self.old.failed_loads) (fault_count self.new.failed_loads) name.now result }
-        ensures saves { SameCounts (fault_count self.old.failed_saves) (fault_count self.new.failed_saves) }
+        ensures does { LoadDoes (Some (file_of self.old.entries)) (Some (file_of self.new.entries))
+            name.now limit result }
+        ensures cause { LoadHasCause (fault_count self.old.failed_loads) (fault_count self.new.failed_loads)
+            name.now result }
+        ensures saves { SameCounts (fault_count self.old.failed_saves)
+            (fault_count self.new.failed_saves) }
 
-        ensures fails { IsFailing self.old.calls ⊎ (file_of self.old.entries name.now ≡ None) → IsFailedLoad result }
-        ensures failed_only { result ≡ Err LoadFault.Failed → IsFailing self.old.calls ⊎ (file_of self.old.entries name.now ≡ None) }
-        ensures load_faults { self.new.failed_loads ≡ after_load self.old.failed_loads name.now result }
+        ensures fails { IsFailing self.old.calls ⊎ (file_of self.old.entries name.now ≡ None)
+            → IsFailedLoad result }
+        ensures failed_only { result ≡ Err LoadFault.Failed
+            → IsFailing self.old.calls ⊎ (file_of self.old.entries name.now ≡ None) }
+        ensures load_faults { self.new.failed_loads
+            ≡ after_load self.old.failed_loads name.now result }
         ensures save_faults { self.new.failed_saves ≡ self.old.failed_saves }
         ensures counted { self.new.calls ≡ after_call self.old.calls }
         ensures entries { self.new.entries ≡ self.old.entries }
@@ -100,14 +112,19 @@ impl Store for MemStore {
         Ok(Vec::from_slice(alloc, bytes)?)
     }
 
+    /// Fails where the number of the call is listed.
     fn save(&mut self, alloc: Global, name: &str, bytes: &[u8]) -> Result<(), SaveFault>
-        ensures does { SaveDoes (Some (file_of self.old.entries)) (Some (file_of self.new.entries)) name.now bytes.now result }
-        ensures cause { SaveHasCause (fault_count self.old.failed_saves) (fault_count self.new.failed_saves) name.now result }
-        ensures loads { SameCounts (fault_count self.old.failed_loads) (fault_count self.new.failed_loads) }
+        ensures does { SaveDoes (Some (file_of self.old.entries)) (Some (file_of self.new.entries))
+            name.now bytes.now result }
+        ensures cause { SaveHasCause (fault_count self.old.failed_saves) (fault_count self.new.failed_saves)
+            name.now result }
+        ensures loads { SameCounts (fault_count self.old.failed_loads)
+            (fault_count self.new.failed_loads) }
 
         ensures fails { IsFailing self.old.calls → IsFailedSave result }
         ensures failed_only { result ≡ Err SaveFault.Failed → IsFailing self.old.calls }
-        ensures save_faults { self.new.failed_saves ≡ after_save self.old.failed_saves name.now result }
+        ensures save_faults { self.new.failed_saves
+            ≡ after_save self.old.failed_saves name.now result }
         ensures load_faults { self.new.failed_loads ≡ self.old.failed_loads }
         ensures counted { self.new.calls ≡ after_call self.old.calls }
     {

@@ -58,7 +58,8 @@ impl<R: Files> Store for RealStore<R> {
         requires { limit < 2 ^ 63 }
         ensures bound { IfOk result (λ bytes. vec_len bytes ≤ limit) }
         ensures does { LoadDoes None None name.now limit result }
-        ensures cause { LoadHasCause (fault_count self.old.loads) (fault_count self.new.loads) name.now result }
+        ensures cause { LoadHasCause (fault_count self.old.loads) (fault_count self.new.loads)
+            name.now result }
         ensures saves { SameCounts (fault_count self.old.saves) (fault_count self.new.saves) }
         ensures load_faults { self.new.loads ≡ after_load self.old.loads name.now result }
         ensures save_faults { self.new.saves ≡ self.old.saves }
@@ -76,10 +77,12 @@ impl<R: Files> Store for RealStore<R> {
     }
 
     /// Writes a file of that name with `.new` behind it, and then renames it, so that a refusal leaves the old
-    /// file whole. A file of the longer name is overwritten, and removed after a refusal.
+    /// file whole. What stood at the name is replaced, a link too. A file of the longer name is overwritten, and
+    /// removed after a refusal.
     fn save(&mut self, alloc: Global, name: &str, bytes: &[u8]) -> Result<(), SaveFault>
         ensures does { SaveDoes None None name.now bytes.now result }
-        ensures cause { SaveHasCause (fault_count self.old.saves) (fault_count self.new.saves) name.now result }
+        ensures cause { SaveHasCause (fault_count self.old.saves) (fault_count self.new.saves)
+            name.now result }
         ensures loads { SameCounts (fault_count self.old.loads) (fault_count self.new.loads) }
         ensures save_faults { self.new.saves ≡ after_save self.old.saves name.now result }
         ensures load_faults { self.new.loads ≡ self.old.loads }
