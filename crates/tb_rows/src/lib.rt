@@ -1,0 +1,5 @@
+//! Tests that cross crates: worked rows over a store, a source and sinks in memory.
+#![tactic(auto)]
+
+#[cfg(test)]
+mod tests;
