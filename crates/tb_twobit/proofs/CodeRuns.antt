@@ -61,10 +61,10 @@ module _ (go : Go) (forms : Trees) (C : List Instr) (P : List PlaceEntry) (compi
 
   pub code_does : (new : Mac) (stop : Stop) → RunDoes C P (mac_start go.heap) new out.before out.now out.faults out.faults_now go.steps stop → (status : Status) → Finishes stop diag status →
       CodeDoes go forms out diag (number status)
-  code_does new Stop.End r status f = with_status status _ f.own (ran_so new Stop.End r 0 (ended r.stands f.silent))
-  code_does new (Stop.Fail c p) r status f = with_status status _ f.own (ran_so new (Stop.Fail c p) r 6 (failed c p r.stands f.says))
+  code_does new Stop.End r status f = with_status status _ f.own (ran_so new Stop.End r 0 (ended r.events r.stands r.passing f.silent))
+  code_does new (Stop.Fail c p) r status f = with_status status _ f.own (ran_so new (Stop.Fail c p) r 6 (failed r.events c p r.stands r.passing f.says))
   code_does new (Stop.Full h s n) r status f = absurd (never new (Stop.Full h s n) _ r.taken r.stands)
-  code_does new Stop.Steps r status f = with_status status _ f.own (ran_so new Stop.Steps r 8 (out_of_steps r.stands.going r.stands.all f.silent))
+  code_does new Stop.Steps r status f = with_status status _ f.own (ran_so new Stop.Steps r 8 (out_of_steps r.events r.stands.going r.passing r.stands.all f.silent))
   code_does new (Stop.Stuck pc) r status f = absurd (never new (Stop.Stuck pc) _ r.taken r.stands)
   code_does new Stop.ReadFault r status f = absurd r.stands
-  code_does new Stop.WriteFault r status f = with_status status _ f.own (ran_so new Stop.WriteFault r 4 (not_put r.stands.going r.stands.before r.stands.rose f.silent))
+  code_does new Stop.WriteFault r status f = with_status status _ f.own (ran_so new Stop.WriteFault r 4 (not_put r.events r.stands.going r.passing r.stands.before r.stands.rose f.silent))

@@ -18,10 +18,10 @@ go_of_text go files loads loads_now bytes out diag _ h short (text_ran forms a r
 
 -- the command never ends in the status of usage
 run_is_not_usage : (state : MacState) (taken steps : ℕ) (out diag : Sunk) (status : ℕ) → RunEnds state taken steps out diag status → status ≡ 2 → ⊥
-run_is_not_usage state taken steps out diag _ (ended a b) e = omega arith
-run_is_not_usage state taken steps out diag _ (not_put a b d f) e = omega arith
-run_is_not_usage state taken steps out diag _ (failed c p a b) e = omega arith
-run_is_not_usage state taken steps out diag _ (out_of_steps a b d) e = omega arith
+run_is_not_usage state taken steps out diag _ (ended front a b d) e = omega arith
+run_is_not_usage state taken steps out diag _ (not_put es a b d f h) e = omega arith
+run_is_not_usage state taken steps out diag _ (failed front c p a b d) e = omega arith
+run_is_not_usage state taken steps out diag _ (out_of_steps es a b d f) e = omega arith
 
 pub is_not_usage : (go : Go) (files : Option (List ℕ → Option (List ℕ))) (loads loads_now : ℕ) (out diag : Sunk) (status : ℕ) → GoDoes go files loads loads_now out diag status → status ≡ 2 → ⊥
 is_not_usage go files loads loads_now out diag _ (not_loaded a b d) e = omega arith

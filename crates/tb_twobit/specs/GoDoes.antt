@@ -1,5 +1,5 @@
 -- What the command `go` does: its status, the bytes that it adds to `out` and the lines on `diag`.
-use Rattle.std.specs.Prelude.{◌≡◌, ℕ, ◌≤◌, ◌<◌, ◌⊎◌, List, [], ◌++◌, length, take, Option, Some, IfSome}
+use Rattle.std.specs.Prelude.{◌≡◌, ℕ, ◌≤◌, ◌<◌, ◌⊎◌, List, [], ◌∷◌, ◌++◌, length, take, Option, Some, IfSome, All}
 use Rattle.tb_prim.specs.declared.place.Place.{Place}
 use Rattle.tb_prim.specs.declared.event.Cause.{Cause}
 use Rattle.tb_prim.specs.declared.event.Event.{Event}
@@ -15,6 +15,7 @@ use Rattle.tb_macm.specs.declared.code.PlaceEntry.{PlaceEntry}
 use Rattle.tb_macm.specs.MacStep.{Mac}
 use Rattle.tb_macm.specs.MacEvents as mac
 use Rattle.tb_macm.specs.MacEvents.{MacState, Going, Halted, mac_machine, puts}
+use Rattle.tb_macm.specs.RunDoes.{IsPassing}
 use Rattle.tb_twobit.specs.Words.{Go}
 use Rattle.tb_twobit.specs.Generate.{program_of}
 use Rattle.tb_twobit.specs.Compiled.{Compiles}
@@ -40,16 +41,18 @@ Said s line = Gained s line ⊎ ((n : ℕ) × Gained s (take n line) × Rose s.f
 abbrev pub source_limit : ℕ
 source_limit = 4194304
 
--- how a run ends, with its status: `taken` steps were made and led to `state`
+-- how a run ends, with its status: `taken` steps were made and led to `state`. No event but the last is an end
+-- or a failure.
 pub data RunEnds (state : MacState) (taken steps : ℕ) (out diag : Sunk) : ℕ → Type 0 where
   -- status 0 where the events end with End
-  ended : {m : Mac} {es : List Event} → state ≡ Halted m Stop.End es → Gained diag [] → RunEnds state taken steps out diag 0
+  ended : {m : Mac} (front : List Event) → state ≡ Halted m Stop.End (front ++ Event.End ∷ []) → All IsPassing front → Gained diag [] → RunEnds state taken steps out diag 0
   -- status 4 only where the count of `out` rose
-  not_put : {m : Mac} {es : List Event} → state ≡ Going m es → taken < steps → Rose out.faults out.faults_now → Gained diag [] → RunEnds state taken steps out diag 4
+  not_put : {m : Mac} (es : List Event) → state ≡ Going m es → All IsPassing es → taken < steps → Rose out.faults out.faults_now → Gained diag [] → RunEnds state taken steps out diag 4
   -- status 6 where the events end with Fail, of this cause and place
-  failed : {m : Mac} {es : List Event} (c : Cause) (p : Place) → state ≡ Halted m (Stop.Fail c p) es → Said diag (failed_line c p) → RunEnds state taken steps out diag 6
+  failed : {m : Mac} (front : List Event) (c : Cause) (p : Place) → state ≡ Halted m (Stop.Fail c p) (front ++ Event.Fail c p ∷ []) → All IsPassing front → Said diag (failed_line c p) →
+      RunEnds state taken steps out diag 6
   -- status 8 where the steps were made without another stop
-  out_of_steps : {m : Mac} {es : List Event} → state ≡ Going m es → taken ≡ steps → Gained diag [] → RunEnds state taken steps out diag 8
+  out_of_steps : {m : Mac} (es : List Event) → state ≡ Going m es → All IsPassing es → taken ≡ steps → Gained diag [] → RunEnds state taken steps out diag 8
 
 -- a run of code that keeps the reference machine: the events emitted are the reference's at some moment, and
 -- the bytes added to `out` are those that they put
