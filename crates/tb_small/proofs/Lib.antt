@@ -1,0 +1,4 @@
+pub mod Steps
+pub mod ListLaws
+pub mod Meaning
+pub mod Built
