@@ -2,3 +2,5 @@ pub mod Steps
 pub mod ListLaws
 pub mod Meaning
 pub mod Built
+pub mod ReferenceHolds
+pub mod ReferenceRun
