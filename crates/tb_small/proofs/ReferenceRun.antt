@@ -125,3 +125,25 @@ if_does x p s a b d does_a does_b does_d c r env held fs es =
     let held3 = holds_grown r arms c.store items (fb ++ fd) held2 in
     does_step x g fs (es ++ hs) _ (cond (is_false v) (at g (eval x d arms) fs (es ++ hs)) (at g (eval x b arms) fs (es ++ hs))) (cond (is_false v) (meaning r d) (meaning r b)) refl
     (arm_does x g r arms b d does_b does_d (holds_fewer r arms g.store fb (fb ++ fd) (within_left fb fd) held3) (holds_fewer r arms g.store fd (fb ++ fd) (within_right fb fd) held3) fs (es ++ hs) (is_false v))))
+
+-- a sequence from some expression on
+sequence_does : (x : Context) (e : Tree) (ds : Trees) → DoAll x (more e ds) → (c : Config) (k : Control) (gs : List Frame) (r : Values) (env : Env) → HoldsAll (free_all x.inner (more e ds)) r env c.store → (fs : List Frame) (es : List Event) →
+    Does x c fs es (sequence x (record c { control = k; frames = gs }) (more e ds) env fs es) (sequence_meaning r (more e ds))
+sequence_does x e none does_all c k gs r env held fs es =
+    does_all.0 c r env (holds_fewer r env c.store (free x.inner e) (free_all x.inner (more e none)) (within_left (free x.inner e) []) held) fs es
+sequence_does x e (more d ds) does_all c k gs r env held fs es =
+    let left = free_all x.inner (more d ds) in
+    let rest = cut left env in
+    let held2 = holds_cut r env c.store left left (λ y i. i) (holds_fewer r env c.store left (free_all x.inner (more e (more d ds))) (within_right (free x.inner e) left) held) in
+    does_then x c (push (Rest (more d ds) rest) fs) fs es _ (meaning r e) (λ v. sequence_meaning r (more d ds))
+    (does_all.0 c r env (holds_fewer r env c.store (free x.inner e) (free_all x.inner (more e (more d ds))) (within_left (free x.inner e) left) held) (push (Rest (more d ds) rest) fs) es)
+    (λ items hs v plain. let g : Config = grown c items in
+    does_step x g fs (es ++ hs) (at g (Val v) (push (Rest (more d ds) rest) fs) (es ++ hs)) (sequence x (record g { control = Val v; frames = push (Rest (more d ds) rest) fs }) (more d ds) rest fs (es ++ hs)) (sequence_meaning r (more d ds)) refl
+    (sequence_does x d ds does_all.1 g (Val v) (push (Rest (more d ds) rest) fs) r rest (holds_grown r rest c.store items left held2) fs (es ++ hs)))
+
+pub seq_does : (x : Context) (p : Place) (s : ℕ) (e : Tree) (ds : Trees) → DoAll x (more e ds) → Do x (Node p s (Seq (more e ds)))
+seq_does x p s e ds does_all c r env held fs es =
+    let all = free_all x.inner (more e ds) in
+    let k : Control = eval x (Node p s (Seq (more e ds))) env in
+    does_step x c fs es (at c k fs es) (sequence x (record c { control = k; frames = fs }) (more e ds) (cut all env) fs es) (sequence_meaning r (more e ds)) refl
+    (sequence_does x e ds does_all c k fs r (cut all env) (holds_cut r env c.store all all (λ y i. i) held) fs es)
