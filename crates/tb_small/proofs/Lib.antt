@@ -4,3 +4,4 @@ pub mod Meaning
 pub mod Built
 pub mod ReferenceHolds
 pub mod ReferenceRun
+pub mod ReferenceOperands
