@@ -5,3 +5,4 @@ pub mod Built
 pub mod ReferenceHolds
 pub mod ReferenceRun
 pub mod ReferenceOperands
+pub mod ReferenceNodes
