@@ -1,5 +1,5 @@
 -- The reference machine comes to what nodes with operands mean, and so to what each expression means.
-use Rattle.std.proofs.Common.{◌≡◌, refl, sym, ap, ◌∙◌, subst, ℕ, zero, suc, ◌+◌, ◌<◌, ◌≤◌, arith, ℤ, Bool, true, false, cond, ◌==◌, List, [], ◌∷◌, ◌++◌, length, drop, Option, Some, None, append-nil}
+use Rattle.std.proofs.Common.{◌≡◌, refl, sym, ap, ◌∙◌, subst, ℕ, zero, suc, ◌+◌, ◌<◌, ◌≤◌, arith, ℤ, Bool, true, false, cond, ◌==◌, List, [], ◌∷◌, ◌++◌, length, drop, Option, Some, None, append-nil, append_assoc}
 use Rattle.std.specs.Prelude.{◌+ℤ◌, ◌-ℤ◌}
 use Rattle.tb_prim.specs.declared.place.Place.{Place}
 use Rattle.tb_prim.specs.declared.event.Cause.{Cause}
@@ -15,10 +15,10 @@ use Rattle.tb_core.specs.Reference.{Context, Config, Control, Val, Frame, State,
 use Rattle.tb_core.proofs.Lines.{line-all, line-length, arranged-length}
 use Rattle.tb_small.specs.Generate.{never}
 use Rattle.tb_small.proofs.Meaning.{Values, values_from, Meaning, Gave, Failed, of_effect, by_number, all_then, all_then_all, meaning, chosen_meanings}
-use Rattle.tb_small.proofs.Built.{IsPlain, IsBinary, HoldsAll}
+use Rattle.tb_small.proofs.Built.{IsPlain, IsBinary, Built, BuiltAll, built_quote, built_local, built_if, built_let, built_seq, built_put, built_binary, built_none, built_more, HoldsAll}
 use Rattle.tb_small.proofs.Steps.{Comes, comes_here, comes_by, comes_then}
 use Rattle.tb_small.proofs.ReferenceHolds.{PlainAll, holds_fewer, holds_cut, holds_let}
-use Rattle.tb_small.proofs.ReferenceRun.{at, grown, HasFailed, Does, Do, DoAll, does_step, does_before, gives}
+use Rattle.tb_small.proofs.ReferenceRun.{at, grown, HasFailed, Does, Do, DoAll, does_step, gives, quote_does, local_does, if_does, seq_does}
 use Rattle.tb_small.proofs.ReferenceOperands.{Left, waits, operands_then}
 
 -- the values by their numbers are plain, and as many as the operands
@@ -126,3 +126,46 @@ prim_does x p s pr ts does_all o keeps c r env held fs es =
     subst (λ t. Does x g fs (es ++ hs) t (of_effect p (effect_of [] pr (by_number ts vs)))) (sym (completes x p s f r fs o g j ds vs env2 (es ++ hs)))
     (subst (λ d. Does x g fs (es ++ hs) (perform (record g { control = j; frames = ds }) p d fs (es ++ hs)) (of_effect p (effect_of [] pr (by_number ts vs)))) (sym h.0)
     (performs x g j ds p (effect_of [] pr (by_number ts vs)) fs (es ++ hs) h.1))))
+
+-- what is done where items were added before
+does_grown : (x : Context) (c : Config) (items : List Item) (fs : List Frame) (es : List Event) (s : State) (m : Meaning) → Does x (grown c items) fs es s m → Does x c fs es s m
+does_grown x c items fs es s (Gave gs v) h = (
+  items ++ h.0,
+  h.1,
+  subst (λ st. Comes (step x) s (at (record c { store = st }) (Val v) fs (es ++ gs))) (append_assoc c.store items h.0) h.2,
+)
+does_grown x c items fs es s (Failed gs cause p) h = h
+
+let_does : (x : Context) (p : Place) (s : ℕ) (ys : List ℕ) (ts : Trees) (e : Tree) → length ys ≡ count ts → x.order s ≡ line_of never ts → DoAll x ts → Do x e → Do x (Node p s (Let ys ts e))
+let_does x p s ys ts e same_count o does_all does_e c r env held fs es =
+    let f = Let ys ts e in
+    let all = free_form x.inner f in
+    let env1 = cut all env in
+    let k : Control = eval x (Node p s f) env in
+    does_step x c fs es (at c k fs es) (waits x p s f r fs c k fs [] env1 (x.order s) es) (meaning r (Node p s f)) refl
+    (operands_then x p s f r fs does_all o c k fs env1 es (holds_cut r env c.store all all (λ y i. i) held) (λ vs. meaning (values_from ys (by_number ts vs) r) e)
+    (λ items hs vs env2 j ds l. let g : Config = grown c items in
+    let bs = by_number ts vs in
+    let bound = bind_from ys (length g.store) env2 in
+    subst (λ t. Does x g fs (es ++ hs) t (meaning (values_from ys bs r) e)) (sym (completes x p s f r fs o g j ds vs env2 (es ++ hs)))
+    (does_grown x g (vars bs) fs (es ++ hs) (at (grown g (vars bs)) (eval x e bound) fs (es ++ hs)) (meaning (values_from ys bs r) e)
+    (does_e (grown g (vars bs)) (values_from ys bs r) bound
+    (holds_let ys bs r env2 g.store (free x.inner e) (same_count ∙ sym (evaluated x s f r vs env2 g.store o l)) (arranged_plain 0 (length (line_of never ts)) (line_of never ts) vs l.plain) l.held) fs (es ++ hs)))))
+
+mutual
+  built_does : (x : Context) {e : Tree} → Built x e → Do x e
+  built_does x (built_quote {p} {s} {c = k} plain word) = quote_does x p s k plain
+  built_does x (built_local {p} {s} {y}) = local_does x p s y
+  built_does x (built_if {p} {s} {a} {b} {c = d} h i j) = if_does x p s a b d (built_does x h) (built_does x i) (built_does x j)
+  built_does x (built_let {p} {s} {ys} {es = ts} {e} n o h i) = let_does x p s ys ts e n o (built_all_does x h) (built_does x i)
+  built_does x (built_seq {p} {s} {e} {es = ts} h) = seq_does x p s e ts (built_all_does x h)
+  built_does x (built_put {p} {s} {e} o h) = prim_does x p s WriteChar (more e none) (built_does x h, tt) o put_plain
+  built_does x (built_binary {p} {s} {pr} {a} {b} two o h i) = prim_does x p s pr (more a (more b none)) (built_does x h, (built_does x i, tt)) o (binary_plain pr two)
+
+  built_all_does : (x : Context) {es : Trees} → BuiltAll x es → DoAll x es
+  built_all_does x built_none = tt
+  built_all_does x (built_more h i) = (built_does x h, built_all_does x i)
+
+-- an expression that is built is evaluated to its meaning, where its variables are held
+pub does : (x : Context) (c : Config) {e : Tree} → Built x e → (r : Values) (env : Env) → HoldsAll (free x.inner e) r env c.store → (fs : List Frame) (es : List Event) → Does x c fs es (at c (eval x e env) fs es) (meaning r e)
+does x c b r env held fs es = built_does x b c r env held fs es
