@@ -6,3 +6,4 @@ pub mod ReferenceHolds
 pub mod ReferenceRun
 pub mod ReferenceOperands
 pub mod ReferenceNodes
+pub mod ReferenceProgram
