@@ -1,5 +1,5 @@
 -- The reference machine comes to what nodes with operands mean, and so to what each expression means.
-use Rattle.std.proofs.Common.{◌≡◌, refl, sym, ap, ◌∙◌, subst, ℕ, zero, suc, ◌+◌, ◌<◌, ◌≤◌, arith, ℤ, Bool, true, false, cond, ◌==◌, List, [], ◌∷◌, ◌++◌, length, drop, Option, Some, None, append-nil, append_assoc}
+use Rattle.std.proofs.Common.{◌≡◌, refl, sym, ap, ◌∙◌, subst, ℕ, zero, suc, ◌≤◌, arith, ℤ, Bool, true, false, cond, ◌==◌, List, [], ◌∷◌, ◌++◌, length, drop, Option, Some, None, append-nil, append_assoc}
 use Rattle.std.specs.Prelude.{◌+ℤ◌, ◌-ℤ◌}
 use Rattle.tb_prim.specs.declared.place.Place.{Place}
 use Rattle.tb_prim.specs.declared.event.Cause.{Cause}
@@ -7,18 +7,18 @@ use Rattle.tb_prim.specs.declared.event.Event.{Event}
 use Rattle.tb_prim.specs.declared.primitive.Primitive.{Primitive}
 use Rattle.tb_prim.specs.declared.primitive.Primitive.TheVariants.{WriteChar, Add, Sub, NumEq, Less}
 use Rattle.tb_core.specs.Tree.{Tree, Node, Form, Let, PrimUse, Trees, none, more, count}
-use Rattle.tb_core.specs.FreeVariables.{without, free, free_form, free_all}
+use Rattle.tb_core.specs.FreeVariables.{free, free_form, free_all}
 use Rattle.tb_core.specs.OperandOrder.{operands, line_of}
-use Rattle.tb_core.specs.Store.{Value, Fix, Char, Truth, Nil, Unspecified, Undefined, EndObject, At, Env, Item, cut, bind_from}
-use Rattle.tb_core.specs.Effects.{Effect, Gives, Makes, Changes, Puts, Takes, Peeks, Fails, Misused, is_fixnum, with_fix, gives_fix, effect_of}
-use Rattle.tb_core.specs.Reference.{Context, Config, Control, Val, Frame, State, Running, Stopped, step, eval, perform, complete, value_for, prepend, arranged, vars}
+use Rattle.tb_core.specs.Store.{Value, Fix, Char, Unspecified, Env, Item, cut, bind_from}
+use Rattle.tb_core.specs.Effects.{Effect, Gives, Puts, Fails, is_fixnum, with_fix, effect_of}
+use Rattle.tb_core.specs.Reference.{Context, Config, Control, Val, Frame, State, Stopped, step, eval, perform, complete, value_for, prepend, arranged, vars}
 use Rattle.tb_core.proofs.Lines.{line-all, line-length, arranged-length}
 use Rattle.tb_small.specs.Generate.{never}
-use Rattle.tb_small.proofs.Meaning.{Values, values_from, Meaning, Gave, Failed, of_effect, by_number, all_then, all_then_all, meaning, chosen_meanings}
+use Rattle.tb_small.proofs.Meaning.{Values, values_from, Meaning, Gave, Failed, of_effect, by_number, meaning}
 use Rattle.tb_small.proofs.Built.{IsPlain, IsBinary, Built, BuiltAll, built_quote, built_local, built_if, built_let, built_seq, built_put, built_binary, built_none, built_more, HoldsAll}
-use Rattle.tb_small.proofs.Steps.{Comes, comes_here, comes_by, comes_then}
-use Rattle.tb_small.proofs.ReferenceHolds.{PlainAll, holds_fewer, holds_cut, holds_let}
-use Rattle.tb_small.proofs.ReferenceRun.{at, grown, HasFailed, Does, Do, DoAll, does_step, gives, quote_does, local_does, if_does, seq_does}
+use Rattle.tb_small.proofs.Steps.{Comes, comes_here}
+use Rattle.tb_small.proofs.ReferenceHolds.{PlainAll, holds_cut, holds_let}
+use Rattle.tb_small.proofs.ReferenceRun.{at, grown, Does, Do, DoAll, does_step, gives, quote_does, local_does, if_does, seq_does}
 use Rattle.tb_small.proofs.ReferenceOperands.{Left, waits, operands_then}
 
 -- the values by their numbers are plain, and as many as the operands

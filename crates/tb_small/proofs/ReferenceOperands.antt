@@ -1,5 +1,5 @@
 -- The reference machine evaluates the operands of a node, first those that are not simple and then those that are.
-use Rattle.std.proofs.Common.{◌≡◌, refl, sym, ap, ◌∙◌, subst, ℕ, zero, suc, ◌+◌, arith, ◌⊎◌, inl, inr, ⊎_elim, Bool, true, false, cond, List, [], ◌∷◌, ◌++◌, length, drop, Option, Some, None, append-nil, append_assoc, length-append}
+use Rattle.std.proofs.Common.{◌≡◌, refl, sym, ap, ◌∙◌, subst, ℕ, zero, suc, ◌+◌, arith, ⊎_elim, Bool, true, false, cond, List, [], ◌∷◌, ◌++◌, length, drop, Option, Some, None, append-nil, append_assoc, length-append}
 use Rattle.std.proofs.lemmas.Bool.{cases_Bool}
 use Rattle.tb_prim.specs.declared.place.Place.{Place}
 use Rattle.tb_prim.specs.declared.event.Event.{Event}
@@ -8,17 +8,17 @@ use Rattle.tb_core.specs.Tree.{Tree, Form, Trees, none, more, tree_at}
 use Rattle.tb_core.specs.FreeVariables.{free, free_all}
 use Rattle.tb_core.specs.OperandOrder.{operands, is_simple, numbers, line_of}
 use Rattle.tb_core.specs.Store.{Value, Env, Item, cut}
-use Rattle.tb_core.specs.Reference.{Context, Config, Control, Eval, Val, Frame, Work, Args, State, Running, Stopped, step, push, eval, free_of_tree, free_of_numbers, free_of_body, operand, operands_left}
-use Rattle.tb_core.proofs.Members.{in-left, in-right, in-either, in-tested, tested-in}
+use Rattle.tb_core.specs.Reference.{Context, Config, Control, Val, Frame, Args, State, Stopped, step, push, eval, free_of_tree, free_of_numbers, free_of_body, operand, operands_left}
+use Rattle.tb_core.proofs.Members.{in-either, in-tested, tested-in}
 use Rattle.tb_core.proofs.Kept.{let_free, let-free-body, free-at}
 use Rattle.tb_small.specs.Generate.{never, same}
-use Rattle.tb_small.proofs.Meaning.{Values, Meaning, Gave, Failed, Meanings, GaveAll, FailedAt, before, before_all, then_all, all_then, all_then_all, meaning, chosen_meanings}
+use Rattle.tb_small.proofs.Meaning.{Values, Meaning, Gave, Failed, Meanings, GaveAll, FailedAt, before_all, then_all, all_then, all_then_all, meaning, chosen_meanings}
 use Rattle.tb_small.proofs.Built.{IsPlain, HoldsAll}
 use Rattle.tb_small.proofs.Steps.{Comes, comes_here, comes_by, comes_then}
 use Rattle.tb_small.proofs.ReferenceHolds.{PlainAll, Within, within_left, within_right, within_both, holds_fewer, holds_cut, holds_grown}
 use Rattle.tb_small.proofs.ReferenceRun.{at, grown, HasFailed, Does, Do, DoAll, does_after, does_before}
 
-pub plain_append : (vs : List Value) (v : Value) → PlainAll vs → IsPlain v → PlainAll (vs ++ v ∷ [])
+plain_append : (vs : List Value) (v : Value) → PlainAll vs → IsPlain v → PlainAll (vs ++ v ∷ [])
 plain_append [] v p q = (q, tt)
 plain_append (w ∷ vs) v p q = (p.0, plain_append vs v p.1 q)
 
@@ -56,7 +56,7 @@ free_of_some x es [] y i = absurd i
 free_of_some x es (n ∷ ns) y i =
     ⊎_elim (λ j. free_of_one x es n (tree_at es n) y refl j) (λ j. free_of_some x es ns y j) (in-either y (free_of_tree x (tree_at es n)) _ i)
 
-pub within_operands : (x : Context) (es : Trees) (ns ys : List ℕ) → Within (free_of_numbers x es ns ++ ys) (free_all x.inner es ++ ys)
+within_operands : (x : Context) (es : Trees) (ns ys : List ℕ) → Within (free_of_numbers x es ns ++ ys) (free_all x.inner es ++ ys)
 within_operands x es ns ys =
     within_both (free_of_numbers x es ns) ys (free_all x.inner es ++ ys)
     (λ y h. within_left (free_all x.inner es) ys y (tested-in (free_all x.inner es) y (free_of_some x es ns y (in-tested (free_of_numbers x es ns) y h))))
@@ -77,7 +77,7 @@ module _ (x : Context) (p : Place) (s : ℕ) (f : Form) (r : Values) (fs : List 
   waits c k ds vs env ns es = operands_left x (record c { control = k; frames = ds }) p s f vs env ns fs es
 
   -- the machine comes to where these numbers are left, with these values
-  pub record Reaches (c : Config) (rest : List ℕ) (es : List Event) (t : State) (vs : List Value) : Type 0 where
+  record Reaches (c : Config) (rest : List ℕ) (es : List Event) (t : State) (vs : List Value) : Type 0 where
     pub items : List Item
     pub env : Env
     pub control : Control
@@ -85,7 +85,8 @@ module _ (x : Context) (p : Place) (s : ℕ) (f : Form) (r : Values) (fs : List 
     pub left : Left x s f r vs env rest (c.store ++ items)
     pub path : Comes (step x) t (waits (record c { store = c.store ++ items }) control frames vs env rest es)
 
-  abbrev pub DoesAll : Config → List ℕ → List Event → State → Meanings → Type 0
+  -- operands that are evaluated to these values, or fail
+  abbrev DoesAll : Config → List ℕ → List Event → State → Meanings → Type 0
   DoesAll c rest es t (GaveAll gs vs) = Reaches c rest (es ++ gs) t vs
   DoesAll c rest es t (FailedAt gs cause q) = HasFailed x t (es ++ gs ++ Event.Fail cause q ∷ [])
 

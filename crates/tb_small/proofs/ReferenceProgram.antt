@@ -3,10 +3,10 @@ use Rattle.std.proofs.Common.{◌≡◌, refl, sym, ap, ◌∙◌, subst, ℕ, s
 use Rattle.tb_prim.specs.declared.event.Event.{Event}
 use Rattle.tb_core.specs.Tree.{Tree, Trees, none, more, tree_at}
 use Rattle.tb_core.specs.FreeVariables.{is_in, free, free_all}
-use Rattle.tb_core.specs.Store.{Value, Env, Empty, Item}
+use Rattle.tb_core.specs.Store.{Value, Empty, Item}
 use Rattle.tb_core.specs.Reference.{Context, Config, Val, Frame, State, Stopped, step, push, eval, Top, top}
 use Rattle.tb_small.proofs.Meaning.{Meaning, Gave, Failed, no_values, meaning}
-use Rattle.tb_small.proofs.Built.{Built, BuiltAll, built_none, built_more, HoldsAll}
+use Rattle.tb_small.proofs.Built.{BuiltAll, built_more, HoldsAll}
 use Rattle.tb_small.proofs.Steps.{Comes, comes_here, comes_by, comes_then}
 use Rattle.tb_small.proofs.ReferenceRun.{at, grown, Does}
 use Rattle.tb_small.proofs.ReferenceNodes.{does}

@@ -1,19 +1,18 @@
 -- The reference machine comes to what an expression means: the cases without operands.
-use Rattle.std.proofs.Common.{◌≡◌, refl, sym, ap, ◌∙◌, subst, ℕ, inl, Bool, true, false, cond, List, [], ◌∷◌, ◌++◌, Option, Some, None, append-nil, append_assoc}
-use Rattle.std.specs.Prelude.{slice_get}
+use Rattle.std.proofs.Common.{◌≡◌, refl, sym, ap, ◌∙◌, subst, ℕ, inl, Bool, true, false, cond, List, [], ◌∷◌, ◌++◌, Some, append-nil, append_assoc}
 use Rattle.tb_prim.specs.declared.place.Place.{Place}
 use Rattle.tb_prim.specs.declared.constant.Const.{Const}
 use Rattle.tb_prim.specs.declared.event.Event.{Event}
 use Rattle.tb_core.specs.Tree.{Tree, Node, Quote, Local, If, Seq, Trees, none, more}
-use Rattle.tb_core.specs.FreeVariables.{free, free_form, free_all}
-use Rattle.tb_core.specs.Store.{Value, Fix, Char, Truth, Nil, Unspecified, Undefined, EndObject, At, Env, Item, Var, lookup, cut, value_of}
+use Rattle.tb_core.specs.FreeVariables.{free, free_all}
+use Rattle.tb_core.specs.Store.{Value, Fix, Char, Truth, Nil, Unspecified, Undefined, EndObject, At, Env, Item, lookup, cut, value_of}
 use Rattle.tb_core.specs.Effects.{is_false}
-use Rattle.tb_core.specs.Reference.{Context, Config, Control, Eval, Val, Frame, Sel, Rest, State, Running, Stopped, step, push, eval, read_value, local_value, held_value, sequence}
+use Rattle.tb_core.specs.Reference.{Context, Config, Control, Val, Frame, Sel, Rest, State, Running, Stopped, step, push, eval, read_value, local_value, held_value, sequence}
 use Rattle.tb_core.proofs.Members.{tested-in}
 use Rattle.tb_small.proofs.Meaning.{Values, value_in, Meaning, Gave, Failed, before, and_then, of_variable, meaning, sequence_meaning}
-use Rattle.tb_small.proofs.Built.{IsPlain, Holds, HoldsAll}
+use Rattle.tb_small.proofs.Built.{IsPlain, HoldsAll}
 use Rattle.tb_small.proofs.Steps.{Comes, comes_here, comes_by, comes_then}
-use Rattle.tb_small.proofs.ReferenceHolds.{Within, within_left, within_right, within_both, holds_fewer, holds_cut, holds_grown}
+use Rattle.tb_small.proofs.ReferenceHolds.{within_left, within_right, holds_fewer, holds_cut, holds_grown}
 
 -- a configuration with this control and these frames
 abbrev pub at : Config → Control → List Frame → List Event → State
@@ -37,6 +36,7 @@ Does x c fs es s (Failed gs cause p) = HasFailed x s (es ++ gs ++ Event.Fail cau
 abbrev pub Do : Context → Tree → Type 0
 Do x e = (c : Config) (r : Values) (env : Env) → HoldsAll (free x.inner e) r env c.store → (fs : List Frame) (es : List Event) → Does x c fs es (at c (eval x e env) fs es) (meaning r e)
 
+-- each of these expressions does
 abbrev pub DoAll : Context → Trees → Type 0
 DoAll x none = Unit {0}
 DoAll x (more e es) = Do x e × DoAll x es
