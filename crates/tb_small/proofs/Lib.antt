@@ -6,3 +6,4 @@ pub mod Sizes
 pub mod MacAnswers
 pub mod MacLines
 pub mod MacSteps
+pub mod MacOperands
