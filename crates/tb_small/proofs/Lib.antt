@@ -7,3 +7,4 @@ pub mod MacAnswers
 pub mod MacLines
 pub mod MacSteps
 pub mod MacOperands
+pub mod MacForms

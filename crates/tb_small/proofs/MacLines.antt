@@ -1,8 +1,9 @@
 -- The line of operands has no number twice.
-use Rattle.std.proofs.Common.{◌≡◌, ℕ, suc, ◌+◌, ◌≤◌, Bool, true, false, cond, ◌⊎◌, inl, inr, ⊎_elim, List, [], ◌∷◌, ◌++◌, refl, sym, ◌∙◌, arith}
+use Rattle.std.proofs.Common.{◌≡◌, ℕ, suc, ◌+◌, ◌<◌, ◌≤◌, Bool, true, false, cond, ◌⊎◌, inl, inr, ⊎_elim, List, [], ◌∷◌, ◌++◌, refl, sym, ◌∙◌, arith}
 use Rattle.tb_semantics.specs.Graph.{IsIn, IsApart}
-use Rattle.tb_core.specs.Tree.{Trees, none, more}
+use Rattle.tb_core.specs.Tree.{Trees, none, more, count}
 use Rattle.tb_core.specs.OperandOrder.{is_simple, numbers, line_of}
+use Rattle.tb_core.proofs.Lines.{line-within}
 use Rattle.tb_core.proofs.Members.{in-left, in-right, in-either}
 use Rattle.tb_small.specs.Generate.{never}
 
@@ -39,7 +40,8 @@ apart_append [] ys p q h = q
 apart_append (x ∷ xs) ys p q h =
     ((λ i. ⊎_elim (λ k. p.0 k) (λ k. h x (inl refl) k) (in-either x xs ys i)), apart_append xs ys p.1 q (λ j i k. h j (inr i) k))
 
-numbers_apart : (a : ℕ → Bool) (b : Bool) (n : ℕ) (es : Trees) → IsApart (numbers a b n es)
+-- the numbers of a pass
+pub numbers_apart : (a : ℕ → Bool) (b : Bool) (n : ℕ) (es : Trees) → IsApart (numbers a b n es)
 numbers_apart a b n none = tt
 numbers_apart a b n (more e es) =
     apart_append (own (is_simple a e) b n) (numbers a b (suc n) es) (own_apart (is_simple a e) b n) (numbers_apart a b (suc n) es)
@@ -67,3 +69,7 @@ pub apart_middle : (xs : List ℕ) (k : ℕ) (ys : List ℕ) → IsApart (xs ++ 
 apart_middle [] k ys h i j e = j
 apart_middle (x ∷ xs) k ys h i (inl p) e = h.0 (in-right x xs (k ∷ ys) (inl (sym e ∙ sym p)))
 apart_middle (x ∷ xs) k ys h i (inr j) e = apart_middle xs k ys h.1 i j e
+
+-- the numbers of the first pass are those of operands
+pub first_below : (es : Trees) (i : ℕ) → IsIn i (numbers never false 0 es) → i < count es
+first_below es i h = line-within never es i (in-left i (numbers never false 0 es) _ h)
