@@ -8,3 +8,5 @@ pub mod MacLines
 pub mod MacSteps
 pub mod MacOperands
 pub mod MacForms
+pub mod MacRun
+pub mod PlacesFound

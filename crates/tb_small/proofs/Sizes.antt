@@ -41,10 +41,10 @@ HasSize e = (r : Slots) (d at : ℕ) → length (code r d at e) ≡ size e
 abbrev pub HaveSizes : Trees → Type 0
 HaveSizes es = (simple : Bool) (r : Slots) (d n at : ℕ) → length (chosen simple r d n at es) ≡ chosen_size simple es
 
-sizes_none : HaveSizes none
+pub sizes_none : HaveSizes none
 sizes_none simple r d n at = refl
 
-sizes_more : (e : Tree) (es : Trees) → HasSize e → HaveSizes es → HaveSizes (more e es)
+pub sizes_more : (e : Tree) (es : Trees) → HasSize e → HaveSizes es → HaveSizes (more e es)
 sizes_more e es u us simple r d n at =
     let fs = code r d at e in
     let js = chosen simple r d (suc n) (at + (size e + 1)) es in
