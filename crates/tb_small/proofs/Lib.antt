@@ -10,3 +10,5 @@ pub mod MacOperands
 pub mod MacForms
 pub mod MacRun
 pub mod PlacesFound
+pub mod FinalEvents
+pub mod MacProgram
