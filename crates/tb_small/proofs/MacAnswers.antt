@@ -1,12 +1,12 @@
 -- The primitives of the two machines agree on values and their words.
-use Rattle.std.proofs.Common.{◌≡◌, ℕ, ◌+◌, Bool, true, false, cond, ◌&&◌, ◌==◌, nat_lt, List, [], refl, sym, ap, ◌∙◌, subst, arith}
+use Rattle.std.proofs.Common.{◌≡◌, Bool, true, false, cond, ◌&&◌, [], refl, sym, subst, arith}
 use Rattle.std.specs.Prelude.{ℤ, pos, negsuc, int_le, int_lt, ◌+ℤ◌, ◌-ℤ◌}
 use Rattle.std.proofs.lemmas.Bool.Decides.{nat_tests}
 use Rattle.tb_prim.specs.declared.event.Cause.{Cause}
 use Rattle.tb_prim.specs.declared.primitive.Primitive.{Primitive}
 use Rattle.tb_prim.specs.declared.primitive.Primitive.TheVariants.{WriteChar, Add, Sub, NumEq, Less}
 use Rattle.tb_core.specs.Store.{Value, Fix, Char, Truth, Nil, Unspecified, Undefined, EndObject, At}
-use Rattle.tb_core.specs.Effects.{Effect, Gives, Makes, Changes, Puts, Takes, Peeks, Fails, Misused, is_false, effect_1, effect_2, with_fix, gives_fix, gives_truth, is_fixnum, same_int}
+use Rattle.tb_core.specs.Effects.{Effect, Gives, Puts, Fails, is_false, effect_1, effect_2, with_fix, gives_fix, gives_truth, is_fixnum, same_int}
 use Rattle.tb_macm.specs.declared.primitive.Answer.{Answer}
 use Rattle.tb_macm.specs.declared.primitive.Answer.TheVariants as A
 use Rattle.tb_macm.specs.MacStep.{on_fixnum, fixnum, boolean, primitive_1, primitive_2, is_false as is_false_word}

@@ -1,22 +1,20 @@
 -- The code of each form runs as the form means, where the code of its parts does.
-use Rattle.std.proofs.Common.{◌≡◌, ℕ, zero, suc, ◌+◌, ◌-◌, ◌<◌, ◌≤◌, ◌==◌, ◌||◌, inl, inr, ⊎_elim, Bool, true, false, cond, length, List, [], ◌∷◌, ◌++◌, Option, Some, None, refl, sym, ap, ◌∙◌, subst, append-nil, append_assoc, arith}
-use Rattle.std.specs.Prelude.{slice_get, slice_set}
+use Rattle.std.proofs.Common.{◌≡◌, ℕ, suc, ◌+◌, ◌-◌, ◌<◌, ◌≤◌, ◌==◌, ◌||◌, inl, ⊎_elim, Bool, true, false, cond, length, List, [], ◌∷◌, ◌++◌, Some, refl, sym, ap, ◌∙◌, subst, append-nil, arith}
+use Rattle.std.specs.Prelude.{slice_get}
 use Rattle.std.proofs.lemmas.Bool.{cases_Bool}
 use Rattle.tb_prim.specs.declared.constant.Const.{Const}
 use Rattle.tb_prim.specs.declared.place.Place.{Place}
 use Rattle.tb_prim.specs.declared.event.Event.{Event}
 use Rattle.tb_prim.specs.declared.primitive.Primitive.{Primitive}
 use Rattle.tb_prim.specs.declared.primitive.Primitive.TheVariants.{WriteChar}
-use Rattle.tb_semantics.specs.Graph.{IsIn}
-use Rattle.tb_core.specs.Tree.{Tree, Node, Form, Quote, Local, If, Let, Seq, PrimUse, Trees, none, more, count}
+use Rattle.tb_core.specs.Tree.{Tree, Node, Quote, Local, If, Let, Seq, PrimUse, Trees, none, more, count}
 use Rattle.tb_core.specs.FreeVariables.{is_in, free, free_all, without}
 use Rattle.tb_core.specs.OperandOrder.{line_of}
 use Rattle.tb_core.specs.Store.{Value, value_of}
 use Rattle.tb_core.specs.Effects.{is_false, effect_of}
-use Rattle.tb_core.specs.Width.{nodes, nodes_all}
+use Rattle.tb_core.specs.Width.{nodes_all}
 use Rattle.tb_core.specs.Reference.{Context}
 use Rattle.tb_core.proofs.Members.{in-left, in-right, in-tested, tested-in, in-without}
-use Rattle.tb_macm.specs.declared.word.Word.{Word}
 use Rattle.tb_macm.specs.declared.code.Instr.{Instr}
 use Rattle.tb_macm.specs.declared.code.Instr.TheVariants.{Load, Jump, Brf, Imm, Op1, Op2}
 use Rattle.tb_macm.specs.declared.code.PlaceEntry.{PlaceEntry}
@@ -24,15 +22,15 @@ use Rattle.tb_macm.specs.Words.{on_some, imm_word}
 use Rattle.tb_macm.specs.MacStep.{Mac, stuck, goes, set_register, jump_to, finish, place_of, primitive_1, primitive_2, is_false as is_false_word}
 use Rattle.tb_macm.specs.MacEvents.{Going, next, next_state}
 use Rattle.tb_small.specs.Generate.{Slots, in_slot, slot_of, slots_from, never, code, codes, chosen, prim_code, places, all_places, chosen_places, size, form_size, all_size, operand_size, chosen_size, prim_size, bits_of, number_2, result}
-use Rattle.tb_small.proofs.Meaning.{Values, has_value, value_in, values_from, Meaning, Gave, Failed, Meanings, and_then, all_then, all_then_all, of_variable, of_effect, by_number, meaning, sequence_meaning, chosen_meanings}
+use Rattle.tb_small.proofs.Meaning.{Values, has_value, value_in, values_from, Meaning, all_then_all, of_variable, of_effect, by_number, meaning, sequence_meaning, chosen_meanings}
 use Rattle.tb_small.proofs.Built.{IsBinary, word_of, HasSlot, HasSlots, HasFrame}
 use Rattle.tb_small.proofs.Sizes.{HasSize, HaveSizes, operand_split}
 use Rattle.tb_small.proofs.MacLines.{line_apart, numbers_apart, first_below}
 use Rattle.tb_small.proofs.MacAnswers.{same_truth_of, agree_put, agree_binary}
-use Rattle.tb_small.proofs.MacSteps.{slice_get-set_other, Keeps, keeps_memory, frame_kept, slots_kept, slots_deeper, Arrived, Found, found_front, found_back, Runs, performs, arrived, loads, branches, runs_step, runs_less, runs_then, runs_jump, finishes}
-use Rattle.tb_small.proofs.MacOperands.{stands_after, slots_part, Stored, InSlots, all_stored, all_counted, nodes_each, Passed, Passes, passes_both, runs_after, Ready, AllReady, pass_runs}
+use Rattle.tb_small.proofs.MacSteps.{slice_get-set_other, keeps_memory, frame_kept, slots_kept, slots_deeper, Found, found_front, found_back, Runs, performs, arrived, loads, branches, runs_step, runs_less, runs_then, runs_jump, finishes}
+use Rattle.tb_small.proofs.MacOperands.{stands_after, slots_part, InSlots, all_stored, all_counted, nodes_each, Passes, passes_both, runs_after, Ready, AllReady, pass_runs}
 use Rattle.tb_small.proofs.Steps.{one}
-use Rattle.tb_small.proofs.ListLaws.{slice_get-set_same, length-slice_set, Stands, stands_front, stands_back}
+use Rattle.tb_small.proofs.ListLaws.{slice_get-set_same, length-slice_set, Stands, stands_front}
 
 -- a variable that the values and slots of a `let` begin with, or another
 slot_more : (b : Bool) (x : ℕ) (v : Value) (i d : ℕ) (r : Values) (s : Slots) (m : Mac) (y : ℕ) → (x == y) ≡ b → i < d → slice_get m.memory (m.stack_pointer + 2 + i) ≡ Some (word_of v) →

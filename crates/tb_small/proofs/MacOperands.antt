@@ -1,6 +1,6 @@
 -- Operands are evaluated in two passes, and each is stored in its slot.
-use Rattle.std.proofs.Common.{◌≡◌, ℕ, zero, suc, ◌+◌, ◌<◌, ◌≤◌, ◌==◌, ◌⊎◌, inl, inr, ⊎_elim, Bool, true, false, cond, length, List, [], ◌∷◌, ◌++◌, Some, refl, sym, ap, ◌∙◌, subst, append-nil, append_assoc, arith}
-use Rattle.std.specs.Prelude.{slice_get, slice_set}
+use Rattle.std.proofs.Common.{◌≡◌, ℕ, zero, suc, ◌+◌, ◌<◌, ◌≤◌, ◌==◌, inl, inr, ⊎_elim, Bool, true, false, cond, length, List, [], ◌∷◌, ◌++◌, Some, refl, sym, ap, ◌∙◌, subst, append-nil, append_assoc, arith}
+use Rattle.std.specs.Prelude.{slice_get}
 use Rattle.std.proofs.lemmas.Bool.{cases_Bool, eqb-true, eqb-false}
 use Rattle.tb_prim.specs.declared.event.Event.{Event}
 use Rattle.tb_prim.specs.declared.event.Stop.{Stop}
@@ -20,11 +20,11 @@ use Rattle.tb_macm.specs.declared.code.PlaceEntry.{PlaceEntry}
 use Rattle.tb_macm.specs.MacStep.{Mac, set_word}
 use Rattle.tb_macm.specs.MacEvents.{Going, Halted, next}
 use Rattle.tb_small.specs.Generate.{Slots, never, same, code, chosen, places, chosen_places, size, chosen_size, result}
-use Rattle.tb_small.proofs.Meaning.{Values, Meaning, Gave, Failed, Meanings, GaveAll, FailedAt, before, before_all, then_all, all_then, all_then_all, by_number, meaning, chosen_meanings}
+use Rattle.tb_small.proofs.Meaning.{Values, Meaning, Gave, Failed, Meanings, GaveAll, FailedAt, before_all, then_all, all_then, all_then_all, by_number, meaning, chosen_meanings}
 use Rattle.tb_small.proofs.Built.{word_of, HasSlots, HasFrame}
 use Rattle.tb_small.proofs.Sizes.{HasSize}
-use Rattle.tb_small.proofs.MacLines.{line_apart, apart_middle}
-use Rattle.tb_small.proofs.MacSteps.{slice_get-set_other, Keeps, keeps_then, keeps_less, keeps_memory, frame_kept, slot_kept, slots_kept, slots_deeper, Arrived, Found, found_front, found_back, Runs, stores, runs_behind, runs_less}
+use Rattle.tb_small.proofs.MacLines.{apart_middle}
+use Rattle.tb_small.proofs.MacSteps.{slice_get-set_other, Keeps, keeps_then, keeps_less, keeps_memory, frame_kept, slot_kept, slots_kept, slots_deeper, Arrived, Found, found_front, found_back, Runs, stores, runs_behind}
 use Rattle.tb_small.proofs.Steps.{Leads, stay, one, then}
 use Rattle.tb_small.proofs.ListLaws.{slice_get-set_same, length-slice_set, Stands, stands_front, stands_back}
 

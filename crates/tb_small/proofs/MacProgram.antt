@@ -1,14 +1,14 @@
 -- MAC runs a whole program, and comes to its end or fails with the events of the program.
-use Rattle.std.proofs.Common.{◌≡◌, ℕ, suc, ◌+◌, ◌-◌, ◌<◌, ◌≤◌, Bool, true, false, cond, length, List, [], ◌∷◌, ◌++◌, Some, refl, sym, ap, ◌∙◌, subst, append_assoc, length-append, arith}
+use Rattle.std.proofs.Common.{◌≡◌, ℕ, ◌+◌, ◌-◌, ◌<◌, ◌≤◌, true, false, cond, length, List, [], ◌∷◌, ◌++◌, Some, refl, sym, ap, ◌∙◌, subst, append_assoc, length-append, arith}
 use Rattle.std.specs.Prelude.{slice_get, slice_set, nat_lt, replicate, pos}
 use Rattle.std.proofs.lemmas.Bool.Decides.{nat_tests}
 use Rattle.std.proofs.lemmas.List.{length-replicate}
 use Rattle.tb_prim.specs.declared.event.Event.{Event}
 use Rattle.tb_prim.specs.declared.event.Stop.{Stop}
 use Rattle.tb_semantics.specs.Runs.{Ends, after}
-use Rattle.tb_core.specs.Tree.{Tree, Trees, none, more}
+use Rattle.tb_core.specs.Tree.{Trees}
 use Rattle.tb_core.specs.FreeVariables.{is_in, free, free_all}
-use Rattle.tb_core.specs.Width.{nodes, nodes_all}
+use Rattle.tb_core.specs.Width.{nodes_all}
 use Rattle.tb_core.specs.Reference.{Context}
 use Rattle.tb_macm.specs.declared.word.Word.{Word}
 use Rattle.tb_macm.specs.declared.word.Word.TheVariants.{Fix}
@@ -17,14 +17,14 @@ use Rattle.tb_macm.specs.declared.code.Instr.TheVariants.{Save, End}
 use Rattle.tb_macm.specs.declared.code.PlaceEntry.{PlaceEntry}
 use Rattle.tb_macm.specs.MacStep.{Mac, Stopped, goes, push_frame}
 use Rattle.tb_macm.specs.MacEvents.{MacState, Going, Halted, next, next_state, events_of, mac_start, mac_machine}
-use Rattle.tb_small.specs.Generate.{Slots, no_slots, code, codes, places, all_places, size, all_size, program_code, program_places}
+use Rattle.tb_small.specs.Generate.{no_slots, code, codes, places, all_places, size, all_size, program_code, program_places}
 use Rattle.tb_small.proofs.Meaning.{no_values, Meaning, Gave, Failed, meaning}
-use Rattle.tb_small.proofs.Built.{Built, BuiltAll, built_none, built_more, HasSlots, HasFrame}
+use Rattle.tb_small.proofs.Built.{BuiltAll, built_none, built_more, HasSlots, HasFrame}
 use Rattle.tb_small.proofs.FinalEvents.{end_after, final_events}
 use Rattle.tb_small.proofs.Sizes.{length_code, length_codes}
 use Rattle.tb_small.proofs.Steps.{Leads, one, then}
 use Rattle.tb_small.proofs.ListLaws.{slice_get-set_same, length-slice_set, Stands, stands_front, stands_all}
-use Rattle.tb_small.proofs.MacSteps.{frame_kept, Arrived, Found, found_front, found_back, Runs, performs}
+use Rattle.tb_small.proofs.MacSteps.{frame_kept, Found, found_front, found_back, Runs, performs}
 use Rattle.tb_small.proofs.MacOperands.{stands_after}
 use Rattle.tb_small.proofs.MacRun.{code_runs}
 use Rattle.tb_small.proofs.PlacesFound.{all_found}

@@ -1,5 +1,5 @@
 -- The code of an expression comes to what the expression means.
-use Rattle.std.proofs.Common.{◌≡◌, ℕ, List}
+use Rattle.std.proofs.Common.{List}
 use Rattle.tb_core.specs.Tree.{Tree, Trees, none, more}
 use Rattle.tb_core.specs.Reference.{Context}
 use Rattle.tb_macm.specs.declared.code.Instr.{Instr}

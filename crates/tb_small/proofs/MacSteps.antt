@@ -1,27 +1,26 @@
 -- What one step of MAC does in a frame with room, and what it keeps.
-use Rattle.std.proofs.Common.{◌≡◌, ℕ, zero, suc, ◌+◌, ◌<◌, ◌≤◌, ◌==◌, nat_lt, ◌&&◌, Bool, true, false, cond, length, List, [], ◌∷◌, ◌++◌, Option, Some, None, refl, sym, ap, ◌∙◌, subst, append-nil, append_assoc, arith}
-use Rattle.std.specs.Prelude.{slice_get, slice_set, pos}
-use Rattle.std.proofs.lemmas.Bool.{lt-ltb}
+use Rattle.std.proofs.Common.{◌≡◌, ℕ, zero, suc, ◌+◌, ◌<◌, ◌≤◌, nat_lt, ◌&&◌, true, cond, length, List, [], ◌∷◌, ◌++◌, Some, None, refl, sym, ap, ◌∙◌, subst, append-nil, append_assoc, arith}
+use Rattle.std.specs.Prelude.{slice_get, slice_set}
 use Rattle.std.proofs.lemmas.Bool.Decides.{nat_tests}
 use Rattle.tb_prim.specs.declared.place.Place.{Place}
 use Rattle.tb_prim.specs.declared.event.Cause.{Cause}
 use Rattle.tb_prim.specs.declared.event.Event.{Event}
 use Rattle.tb_prim.specs.declared.event.Stop.{Stop}
 use Rattle.tb_core.specs.Store.{Value}
-use Rattle.tb_core.specs.Effects.{Effect, Gives, Makes, Changes, Puts, Takes, Peeks, Fails, Misused}
+use Rattle.tb_core.specs.Effects.{Effect, Gives, Puts, Fails}
 use Rattle.tb_macm.specs.declared.word.Word.{Word}
 use Rattle.tb_macm.specs.declared.word.Word.TheVariants as W
 use Rattle.tb_macm.specs.declared.code.Instr.{Instr}
-use Rattle.tb_macm.specs.declared.code.Instr.TheVariants.{Load, Store, Jump, Brf, Imm, Op1, Op2}
+use Rattle.tb_macm.specs.declared.code.Instr.TheVariants.{Load, Store, Jump, Brf}
 use Rattle.tb_macm.specs.declared.code.PlaceEntry.{PlaceEntry}
 use Rattle.tb_macm.specs.declared.primitive.Answer.{Answer}
 use Rattle.tb_macm.specs.declared.primitive.Answer.TheVariants as A
-use Rattle.tb_macm.specs.Words.{on_some, imm_word, frame_size}
-use Rattle.tb_macm.specs.MacStep.{Mac, Stopped, perform, stuck, set_register, set_word, jump_to, slot_at, goes, place_of, finish, is_false, primitive_1, primitive_2}
+use Rattle.tb_macm.specs.Words.{on_some, frame_size}
+use Rattle.tb_macm.specs.MacStep.{Mac, Stopped, perform, stuck, set_register, set_word, jump_to, slot_at, goes, place_of, finish, is_false}
 use Rattle.tb_macm.specs.MacEvents.{Going, Halted, next, next_state}
 use Rattle.tb_small.specs.Generate.{Slots, slot_of, result}
 use Rattle.tb_small.proofs.Meaning.{Values, Meaning, Gave, Failed, before, and_then, of_effect}
-use Rattle.tb_small.proofs.Built.{word_of, HasSlot, HasSlots, HasFrame}
+use Rattle.tb_small.proofs.Built.{word_of, HasSlots, HasFrame}
 use Rattle.tb_small.proofs.MacAnswers.{Agrees}
 use Rattle.tb_small.proofs.Steps.{Leads, one, then}
 use Rattle.tb_small.proofs.ListLaws.{slice_get-set_same, length-slice_set}

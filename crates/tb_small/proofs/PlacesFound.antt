@@ -1,11 +1,11 @@
 -- The places of code are in the order of its instructions, so that each is found.
-use Rattle.std.proofs.Common.{◌≡◌, ℕ, zero, suc, ◌+◌, ◌-◌, ◌<◌, ◌≤◌, ◌==◌, Bool, true, false, cond, length, List, [], ◌∷◌, ◌++◌, Some, refl, sym, ap, ◌∙◌, subst, append_assoc, arith}
+use Rattle.std.proofs.Common.{◌≡◌, ℕ, suc, ◌+◌, ◌-◌, ◌<◌, ◌≤◌, ◌==◌, Bool, true, false, cond, List, [], ◌∷◌, ◌++◌, Some, refl, ap, ◌∙◌, subst, append_assoc, arith}
 use Rattle.std.specs.Prelude.{option_map, find}
 use Rattle.std.proofs.lemmas.Bool.Decides.{nat_tests}
 use Rattle.tb_prim.specs.declared.place.Place.{Place}
 use Rattle.tb_prim.specs.declared.primitive.Primitive.{Primitive}
 use Rattle.tb_prim.specs.declared.primitive.Primitive.TheVariants.{WriteChar}
-use Rattle.tb_core.specs.Tree.{Tree, Node, Form, If, Let, Seq, PrimUse, Trees, none, more, count}
+use Rattle.tb_core.specs.Tree.{Tree, Node, If, Let, PrimUse, Trees, none, more, count}
 use Rattle.tb_core.specs.OperandOrder.{is_simple}
 use Rattle.tb_core.specs.Reference.{Context}
 use Rattle.tb_macm.specs.declared.code.PlaceEntry.{PlaceEntry}
