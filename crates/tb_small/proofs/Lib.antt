@@ -7,3 +7,13 @@ pub mod ReferenceRun
 pub mod ReferenceOperands
 pub mod ReferenceNodes
 pub mod ReferenceProgram
+pub mod Sizes
+pub mod MacAnswers
+pub mod MacLines
+pub mod MacSteps
+pub mod MacOperands
+pub mod MacForms
+pub mod MacRun
+pub mod PlacesFound
+pub mod FinalEvents
+pub mod MacProgram
