@@ -2,7 +2,7 @@
 use Rattle.std.proofs.Common.{List, [], ◌∷◌, ◌++◌}
 use Rattle.tb_prim.specs.declared.event.Event.{Event}
 use Rattle.tb_core.specs.Tree.{Trees, none, more}
-use Rattle.tb_small.proofs.Meaning.{no_values, Meaning, Gave, Failed, meaning}
+use Rattle.tb_small.specs.Meaning.{no_values, Meaning, Gave, Failed, meaning}
 
 -- an expression that gives a value goes on with the rest, and one that fails ends
 abbrev pub end_after : Meaning → List Event → List Event

@@ -1,7 +1,5 @@
 pub mod Steps
 pub mod ListLaws
-pub mod Meaning
-pub mod Built
 pub mod ReferenceHolds
 pub mod ReferenceRun
 pub mod ReferenceOperands
@@ -17,3 +15,4 @@ pub mod MacRun
 pub mod PlacesFound
 pub mod FinalEvents
 pub mod MacProgram
+pub mod WholeProgram

@@ -11,7 +11,7 @@ use Rattle.tb_macm.specs.declared.primitive.Answer.{Answer}
 use Rattle.tb_macm.specs.declared.primitive.Answer.TheVariants as A
 use Rattle.tb_macm.specs.MacStep.{on_fixnum, fixnum, boolean, primitive_1, primitive_2, is_false as is_false_word}
 use Rattle.tb_small.specs.Generate.{number_2}
-use Rattle.tb_small.proofs.Built.{IsBinary, word_of}
+use Rattle.tb_small.specs.Built.{IsBinary, word_of}
 
 -- only the word of `#f` is false
 pub same_truth_of : (v : Value) → is_false_word (word_of v) ≡ is_false v

@@ -20,8 +20,8 @@ use Rattle.tb_macm.specs.declared.code.PlaceEntry.{PlaceEntry}
 use Rattle.tb_macm.specs.MacStep.{Mac, set_word}
 use Rattle.tb_macm.specs.MacEvents.{Going, Halted, next}
 use Rattle.tb_small.specs.Generate.{Slots, never, same, code, chosen, places, chosen_places, size, chosen_size, result}
-use Rattle.tb_small.proofs.Meaning.{Values, Meaning, Gave, Failed, Meanings, GaveAll, FailedAt, before_all, then_all, all_then, all_then_all, by_number, meaning, chosen_meanings}
-use Rattle.tb_small.proofs.Built.{word_of, HasSlots, HasFrame}
+use Rattle.tb_small.specs.Meaning.{Values, Meaning, Gave, Failed, Meanings, GaveAll, FailedAt, before_all, then_all, all_then, all_then_all, by_number, meaning, chosen_meanings}
+use Rattle.tb_small.specs.Built.{word_of, HasSlots, HasFrame}
 use Rattle.tb_small.proofs.Sizes.{HasSize}
 use Rattle.tb_small.proofs.MacLines.{apart_middle}
 use Rattle.tb_small.proofs.MacSteps.{slice_get-set_other, Keeps, keeps_then, keeps_less, keeps_memory, frame_kept, slot_kept, slots_kept, slots_deeper, Arrived, Found, found_front, found_back, Runs, stores, runs_behind}

@@ -16,24 +16,19 @@ use Rattle.tb_macm.specs.declared.code.Instr.{Instr}
 use Rattle.tb_macm.specs.declared.code.Instr.TheVariants.{Save, End}
 use Rattle.tb_macm.specs.declared.code.PlaceEntry.{PlaceEntry}
 use Rattle.tb_macm.specs.MacStep.{Mac, Stopped, goes, push_frame}
-use Rattle.tb_macm.specs.MacEvents.{MacState, Going, Halted, next, next_state, events_of, mac_start, mac_machine}
+use Rattle.tb_macm.specs.MacEvents.{Going, Halted, next, next_state, events_of, mac_start, mac_machine}
 use Rattle.tb_small.specs.Generate.{no_slots, code, codes, places, all_places, size, all_size, program_code, program_places}
-use Rattle.tb_small.proofs.Meaning.{no_values, Meaning, Gave, Failed, meaning}
-use Rattle.tb_small.proofs.Built.{BuiltAll, built_none, built_more, HasSlots, HasFrame}
+use Rattle.tb_small.specs.Meaning.{no_values, Meaning, Gave, Failed, meaning}
+use Rattle.tb_small.specs.Built.{BuiltAll, built_none, built_more, HasSlots, HasFrame}
 use Rattle.tb_small.proofs.FinalEvents.{end_after, final_events}
 use Rattle.tb_small.proofs.Sizes.{length_code, length_codes}
+use Rattle.tb_small.specs.Compiled.{IsOver}
 use Rattle.tb_small.proofs.Steps.{Leads, one, then}
 use Rattle.tb_small.proofs.ListLaws.{slice_get-set_same, length-slice_set, Stands, stands_front, stands_all}
 use Rattle.tb_small.proofs.MacSteps.{frame_kept, Found, found_front, found_back, Runs, performs}
 use Rattle.tb_small.proofs.MacOperands.{stands_after}
 use Rattle.tb_small.proofs.MacRun.{code_runs}
 use Rattle.tb_small.proofs.PlacesFound.{all_found}
-
--- a run that has come to its end, or failed
-abbrev pub IsOver : MacState → Type 0
-IsOver (Halted m Stop.End es) = Unit {0}
-IsOver (Halted m (Stop.Fail c p) es) = Unit {0}
-IsOver _ = ⊥
 
 none_left : (xs ys : List ℕ) → xs ++ ys ≡ [] → xs ≡ []
 none_left [] ys e = refl

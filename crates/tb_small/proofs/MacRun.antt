@@ -4,7 +4,7 @@ use Rattle.tb_core.specs.Tree.{Tree, Trees, none, more}
 use Rattle.tb_core.specs.Reference.{Context}
 use Rattle.tb_macm.specs.declared.code.Instr.{Instr}
 use Rattle.tb_macm.specs.declared.code.PlaceEntry.{PlaceEntry}
-use Rattle.tb_small.proofs.Built.{Built, BuiltAll, built_quote, built_local, built_if, built_let, built_seq, built_put, built_binary, built_none, built_more}
+use Rattle.tb_small.specs.Built.{Built, BuiltAll, built_quote, built_local, built_if, built_let, built_seq, built_put, built_binary, built_none, built_more}
 use Rattle.tb_small.proofs.Sizes.{length_code, length_chosen, sizes_none, sizes_more}
 use Rattle.tb_small.proofs.MacOperands.{Ready, AllReady}
 use Rattle.tb_small.proofs.MacForms.{quote_ready, local_ready, if_ready, let_ready, seq_ready, put_ready, binary_ready}

@@ -19,8 +19,8 @@ use Rattle.tb_macm.specs.Words.{on_some, frame_size}
 use Rattle.tb_macm.specs.MacStep.{Mac, Stopped, perform, stuck, set_register, set_word, jump_to, slot_at, goes, place_of, finish, is_false}
 use Rattle.tb_macm.specs.MacEvents.{Going, Halted, next, next_state}
 use Rattle.tb_small.specs.Generate.{Slots, slot_of, result}
-use Rattle.tb_small.proofs.Meaning.{Values, Meaning, Gave, Failed, before, and_then, of_effect}
-use Rattle.tb_small.proofs.Built.{word_of, HasSlots, HasFrame}
+use Rattle.tb_small.specs.Meaning.{Values, Meaning, Gave, Failed, before, and_then, of_effect}
+use Rattle.tb_small.specs.Built.{word_of, HasSlots, HasFrame}
 use Rattle.tb_small.proofs.MacAnswers.{Agrees}
 use Rattle.tb_small.proofs.Steps.{Leads, one, then}
 use Rattle.tb_small.proofs.ListLaws.{slice_get-set_same, length-slice_set}

@@ -8,8 +8,8 @@ use Rattle.tb_core.specs.Reference.{vars}
 use Rattle.tb_core.proofs.Members.{in-left, in-right, in-either, in-tested, tested-in, in-without}
 use Rattle.tb_core.proofs.Cuts.{cut-kept}
 use Rattle.tb_core.proofs.Stores.{get-left, get-right}
-use Rattle.tb_small.proofs.Meaning.{Values, value_in, values_from}
-use Rattle.tb_small.proofs.Built.{IsPlain, Holds, HoldsAll}
+use Rattle.tb_small.specs.Meaning.{Values, value_in, values_from}
+use Rattle.tb_small.specs.Built.{IsPlain, Holds, HoldsAll}
 
 -- values that are plain, each of them
 abbrev pub PlainAll : List Value → Type 0

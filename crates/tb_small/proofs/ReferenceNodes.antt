@@ -14,8 +14,8 @@ use Rattle.tb_core.specs.Effects.{Effect, Gives, Puts, Fails, is_fixnum, with_fi
 use Rattle.tb_core.specs.Reference.{Context, Config, Control, Val, Frame, State, Stopped, step, eval, perform, complete, value_for, prepend, arranged, vars}
 use Rattle.tb_core.proofs.Lines.{line-all, line-length, arranged-length}
 use Rattle.tb_small.specs.Generate.{never}
-use Rattle.tb_small.proofs.Meaning.{Values, values_from, Meaning, Gave, Failed, of_effect, by_number, meaning}
-use Rattle.tb_small.proofs.Built.{IsPlain, IsBinary, Built, BuiltAll, built_quote, built_local, built_if, built_let, built_seq, built_put, built_binary, built_none, built_more, HoldsAll}
+use Rattle.tb_small.specs.Meaning.{Values, values_from, Meaning, Gave, Failed, of_effect, by_number, meaning}
+use Rattle.tb_small.specs.Built.{IsPlain, IsBinary, Built, BuiltAll, built_quote, built_local, built_if, built_let, built_seq, built_put, built_binary, built_none, built_more, HoldsAll}
 use Rattle.tb_small.proofs.Steps.{Comes, comes_here}
 use Rattle.tb_small.proofs.ReferenceHolds.{PlainAll, holds_cut, holds_let}
 use Rattle.tb_small.proofs.ReferenceRun.{at, grown, Does, Do, DoAll, does_step, gives, quote_does, local_does, if_does, seq_does}

@@ -12,8 +12,8 @@ use Rattle.tb_core.specs.Reference.{Context, Config, Control, Val, Frame, Args, 
 use Rattle.tb_core.proofs.Members.{in-either, in-tested, tested-in}
 use Rattle.tb_core.proofs.Kept.{let_free, let-free-body, free-at}
 use Rattle.tb_small.specs.Generate.{never, same}
-use Rattle.tb_small.proofs.Meaning.{Values, Meaning, Gave, Failed, Meanings, GaveAll, FailedAt, before_all, then_all, all_then, all_then_all, meaning, chosen_meanings}
-use Rattle.tb_small.proofs.Built.{IsPlain, HoldsAll}
+use Rattle.tb_small.specs.Meaning.{Values, Meaning, Gave, Failed, Meanings, GaveAll, FailedAt, before_all, then_all, all_then, all_then_all, meaning, chosen_meanings}
+use Rattle.tb_small.specs.Built.{IsPlain, HoldsAll}
 use Rattle.tb_small.proofs.Steps.{Comes, comes_here, comes_by, comes_then}
 use Rattle.tb_small.proofs.ReferenceHolds.{PlainAll, Within, within_left, within_right, within_both, holds_fewer, holds_cut, holds_grown}
 use Rattle.tb_small.proofs.ReferenceRun.{at, grown, HasFailed, Does, Do, DoAll, does_after, does_before}

@@ -5,20 +5,12 @@ use Rattle.tb_core.specs.Tree.{Tree, Trees, none, more, tree_at}
 use Rattle.tb_core.specs.FreeVariables.{is_in, free, free_all}
 use Rattle.tb_core.specs.Store.{Value, Empty, Item}
 use Rattle.tb_core.specs.Reference.{Context, Config, Val, Frame, State, Stopped, step, push, eval, Top, top}
-use Rattle.tb_small.proofs.Meaning.{Meaning, Gave, Failed, no_values, meaning}
-use Rattle.tb_small.proofs.Built.{BuiltAll, built_more, HoldsAll}
+use Rattle.tb_small.specs.Meaning.{Meaning, Gave, Failed, no_values, meaning}
+use Rattle.tb_small.specs.Built.{BuiltAll, built_more, HoldsAll}
+use Rattle.tb_small.proofs.FinalEvents.{end_after, final_events}
 use Rattle.tb_small.proofs.Steps.{Comes, comes_here, comes_by, comes_then}
 use Rattle.tb_small.proofs.ReferenceRun.{at, grown, Does}
 use Rattle.tb_small.proofs.ReferenceNodes.{does}
-
--- the events of a list of expressions, up to the end
-abbrev pub end_after : Meaning → List Event → List Event
-end_after (Gave fs v) rest = fs ++ rest
-end_after (Failed fs c p) rest = fs ++ Event.Fail c p ∷ []
-
-abbrev pub final_events : Trees → List Event
-final_events none = Event.End ∷ []
-final_events (more e es) = end_after (meaning no_values e) (final_events es)
 
 -- the forms from a number on are these
 abbrev pub FormsFrom : Context → ℕ → Trees → Type 0

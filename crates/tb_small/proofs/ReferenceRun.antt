@@ -9,8 +9,8 @@ use Rattle.tb_core.specs.Store.{Value, Fix, Char, Truth, Nil, Unspecified, Undef
 use Rattle.tb_core.specs.Effects.{is_false}
 use Rattle.tb_core.specs.Reference.{Context, Config, Control, Val, Frame, Sel, Rest, State, Running, Stopped, step, push, eval, read_value, local_value, held_value, sequence}
 use Rattle.tb_core.proofs.Members.{tested-in}
-use Rattle.tb_small.proofs.Meaning.{Values, value_in, Meaning, Gave, Failed, before, and_then, of_variable, meaning, sequence_meaning}
-use Rattle.tb_small.proofs.Built.{IsPlain, HoldsAll}
+use Rattle.tb_small.specs.Meaning.{Values, value_in, Meaning, Gave, Failed, before, and_then, of_variable, meaning, sequence_meaning}
+use Rattle.tb_small.specs.Built.{IsPlain, HoldsAll}
 use Rattle.tb_small.proofs.Steps.{Comes, comes_here, comes_by, comes_then}
 use Rattle.tb_small.proofs.ReferenceHolds.{within_left, within_right, holds_fewer, holds_cut, holds_grown}
 

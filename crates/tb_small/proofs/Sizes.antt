@@ -9,7 +9,7 @@ use Rattle.tb_core.specs.Reference.{Context}
 use Rattle.tb_macm.specs.declared.code.Instr.{Instr}
 use Rattle.tb_macm.specs.declared.code.Instr.TheVariants.{Jump, Brf, Store}
 use Rattle.tb_small.specs.Generate.{Slots, slots_from, never, same, code, codes, chosen, prim_code, size, form_size, all_size, operand_size, chosen_size, prim_size, result}
-use Rattle.tb_small.proofs.Built.{Built, BuiltAll, built_quote, built_local, built_if, built_let, built_seq, built_put, built_binary, built_none, built_more}
+use Rattle.tb_small.specs.Built.{Built, BuiltAll, built_quote, built_local, built_if, built_let, built_seq, built_put, built_binary, built_none, built_more}
 
 split : (b : Bool) (k f t : ℕ) → cond (same false b) (k + f) f + cond (same true b) (k + t) t ≡ k + (f + t)
 split true k f t = omega arith

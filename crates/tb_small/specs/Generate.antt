@@ -1,6 +1,6 @@
 -- The code of the forms built so far: each expression leaves its value in RESULT, and keeps the slots below
 -- a depth.
-use Rattle.std.specs.Prelude.{ℕ, zero, suc, ◌+◌, ◌-◌, ◌*◌, ◌^◌, ◌==◌, ℤ, pos, negsuc, Bool, true, false, cond, List, [], ◌∷◌, ◌++◌, length}
+use Rattle.std.specs.Prelude.{ℕ, zero, suc, ◌+◌, ◌-◌, ◌*◌, ◌^◌, ◌==◌, ℤ, pos, negsuc, Bool, true, false, cond, List, [], ◌∷◌, ◌++◌}
 use Rattle.tb_prim.specs.declared.place.Place.{Place}
 use Rattle.tb_prim.specs.declared.constant.Const.{Const}
 use Rattle.tb_prim.specs.declared.primitive.Primitive.{Primitive}
@@ -123,10 +123,10 @@ abbrev mutual
   form_code r d at (Local x) = Load result (slot_of r x) ∷ []
   form_code r d at (If a b c) =
       code r d at a ++ (Brf result (at + (size a + (1 + (size b + 1)))) ∷
-        (code r d (at + (size a + 1)) b ++ (Jump (at + form_size (If a b c)) ∷ code r d (at + (size a + (1 + (size b + 1)))) c)))
+      (code r d (at + (size a + 1)) b ++ (Jump (at + form_size (If a b c)) ∷ code r d (at + (size a + (1 + (size b + 1)))) c)))
   form_code r d at (Let xs es e) =
       chosen false r (d + count es) d at es ++ (chosen true r (d + count es) d (at + chosen_size false es) es ++
-        code (slots_from xs d r) (d + count es) (at + operand_size es) e)
+      code (slots_from xs d r) (d + count es) (at + operand_size es) e)
   form_code r d at (Seq es) = codes r d at es
   form_code r d at (PrimUse p es) =
       chosen false r (d + count es) d at es ++ (chosen true r (d + count es) d (at + chosen_size false es) es ++ prim_code p (count es) d)
@@ -142,8 +142,8 @@ abbrev mutual
   chosen simple r d n at none = []
   chosen simple r d n at (more e es) =
       cond (same simple (is_simple never e))
-        (code r d at e ++ (Store result n ∷ chosen simple r d (suc n) (at + (size e + 1)) es))
-        (chosen simple r d (suc n) at es)
+      (code r d at e ++ (Store result n ∷ chosen simple r d (suc n) (at + (size e + 1)) es))
+      (chosen simple r d (suc n) at es)
 
 abbrev mutual
   -- the places of the instructions that can fail, where the first instruction has number `at`
@@ -158,7 +158,7 @@ abbrev mutual
   form_places at p (Seq es) = all_places at es
   form_places at p (PrimUse pr es) =
       chosen_places false at es ++ (chosen_places true (at + chosen_size false es) es ++
-        record { instr = at + (operand_size es + (prim_size (count es) - 1)); place = p } ∷ [])
+      record { instr = at + (operand_size es + (prim_size (count es) - 1)); place = p } ∷ [])
   form_places at p _ = []
 
   pub all_places : ℕ → Trees → List PlaceEntry

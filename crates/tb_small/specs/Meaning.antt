@@ -1,12 +1,11 @@
 -- What an expression comes to, told at once: the events that it emits, and its value or its failure.
-use Rattle.std.proofs.Common.{◌≡◌, ℕ, ◌==◌, Bool, true, false, cond, List, [], ◌∷◌, ◌++◌, length, Option, Some, None}
+use Rattle.std.specs.Prelude.{ℕ, ◌==◌, Bool, true, false, cond, List, [], ◌∷◌, ◌++◌, length, Option, Some, None}
 use Rattle.tb_prim.specs.declared.place.Place.{Place}
 use Rattle.tb_prim.specs.declared.event.Cause.{Cause}
 use Rattle.tb_prim.specs.declared.event.Event.{Event}
-use Rattle.tb_prim.specs.declared.primitive.Primitive.{Primitive}
-use Rattle.tb_core.specs.Tree.{Tree, Node, Form, Quote, Local, If, Let, Seq, PrimUse, Trees, none, more, count}
+use Rattle.tb_core.specs.Tree.{Tree, Node, Form, Quote, Local, If, Let, Seq, PrimUse, Trees, none, more}
 use Rattle.tb_core.specs.OperandOrder.{is_simple, line_of}
-use Rattle.tb_core.specs.Store.{Value, Char, Unspecified, value_of}
+use Rattle.tb_core.specs.Store.{Value, Unspecified, value_of}
 use Rattle.tb_core.specs.Effects.{Effect, Gives, Puts, Fails, is_false, effect_of}
 use Rattle.tb_core.specs.Reference.{arranged}
 use Rattle.tb_small.specs.Generate.{never, same}

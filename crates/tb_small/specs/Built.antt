@@ -1,5 +1,5 @@
 -- The expressions that have code so far, and what both machines hold of the variables in scope.
-use Rattle.std.proofs.Common.{◌≡◌, ℕ, ◌+◌, ◌<◌, ◌≤◌, Bool, true, false, List, [], ◌∷◌, ◌++◌, length, Option, Some, None}
+use Rattle.std.specs.Prelude.{◌≡◌, ℕ, ◌+◌, ◌<◌, ◌≤◌, Bool, true, false, List, length, Some}
 use Rattle.std.specs.Prelude.{pos, slice_get}
 use Rattle.tb_prim.specs.declared.place.Place.{Place}
 use Rattle.tb_prim.specs.declared.constant.Const.{Const}
@@ -15,7 +15,7 @@ use Rattle.tb_macm.specs.declared.word.Word.TheVariants as W
 use Rattle.tb_macm.specs.Words.{imm_word}
 use Rattle.tb_macm.specs.MacStep.{Mac}
 use Rattle.tb_small.specs.Generate.{never, bits_of, Slots, slot_of}
-use Rattle.tb_small.proofs.Meaning.{Values, value_in}
+use Rattle.tb_small.specs.Meaning.{Values, value_in}
 
 -- the word of a value
 abbrev pub truth_word : Bool → Word
