@@ -1,0 +1,4 @@
+pub mod Generate
+pub mod Meaning
+pub mod Built
+pub mod Compiled
