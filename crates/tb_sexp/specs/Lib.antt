@@ -1,3 +1,7 @@
+pub mod Bytes
+pub mod Lexing
+pub mod Numbers
+pub mod Places
+pub mod Printing
 pub mod Tree
 pub mod View
-pub mod Printing
