@@ -1,5 +1,5 @@
 -- Reading one token: the token and how many bytes it takes, or what is wrong with it.
-use Rattle.std.specs.Prelude.{ℕ, ◌+◌, ◌==◌, ◌&&◌, ◌||◌, nat_lt, nat_le, Bool, true, false, cond, List, [], ◌∷◌, ◌≡◌, length, take, map, codes, bytes_eq, Option, Some, None, Result, Ok, Err}
+use Rattle.std.specs.Prelude.{ℕ, ◌+◌, ◌==◌, ◌&&◌, ◌||◌, nat_lt, nat_le, Bool, true, false, cond, List, [], ◌∷◌, ◌++◌, ◌≡◌, length, take, map, codes, bytes_eq, Option, Some, None, Result, Ok, Err}
 use Rattle.std.specs.Char.{to_ascii_lowercase}
 use Rattle.tb_sexp.specs.declared.token.Token.{Token}
 use Rattle.tb_sexp.specs.declared.token.Token.TheVariants as token
@@ -48,19 +48,31 @@ abbrev pub based_of : Option ℕ → List ℕ → Result Token Fault
 based_of None bs = Err Syntax
 based_of (Some base) bs = number_of base bs
 
--- what follows `#` up to a delimiter: a truth value, or a base and a number
+-- a truth value, behind which nothing stands
+abbrev pub truth_of : Bool → List ℕ → Result Token Fault
+truth_of value [] = Ok (token.Bool value)
+truth_of value (b ∷ bs) = Err Syntax
+
+-- what follows `#` up to a delimiter: `t` (116), `f` (102), or a base and a number
 abbrev pub hashed_of : List ℕ → Result Token Fault
 hashed_of [] = Err Syntax
 hashed_of (b ∷ bs) =
-    cond (bytes_eq (folded (b ∷ bs)) (codes "t")) (Ok (token.Bool true))
-    (cond (bytes_eq (folded (b ∷ bs)) (codes "f")) (Ok (token.Bool false)) (based_of (base_of (to_ascii_lowercase b)) bs))
+    cond (to_ascii_lowercase b == 116) (truth_of true bs)
+    (cond (to_ascii_lowercase b == 102) (truth_of false bs) (based_of (base_of (to_ascii_lowercase b)) bs))
 
--- a character by its byte, which is `first`, and the bytes that follow it up to a delimiter
-abbrev pub character_of : ℕ → List ℕ → Result Token Fault
-character_of first bs =
-    cond (length bs == 0) (Ok (token.Char first))
-    (cond (bytes_eq (folded (first ∷ bs)) (codes "space")) (Ok (token.Char 32))
-    (cond (bytes_eq (folded (first ∷ bs)) (codes "newline")) (Ok (token.Char 10)) (Err Syntax)))
+-- these bytes, letters in either case
+abbrev pub is_folded : List ℕ → List ℕ → Bool
+is_folded bs word = bytes_eq (folded bs) (folded word)
+
+abbrev pub named_of : List ℕ → Result Token Fault
+named_of bs =
+    cond (is_folded bs (codes "space")) (Ok (token.Char 32))
+    (cond (is_folded bs (codes "newline")) (Ok (token.Char 10)) (Err Syntax))
+
+-- a character: one byte, or one of two names
+abbrev pub character_of : List ℕ → Result Token Fault
+character_of [] = Err Syntax
+character_of (b ∷ bs) = cond (length bs == 0) (Ok (token.Char b)) (named_of (b ∷ bs))
 
 -- the token with the number of its bytes
 abbrev pub sized : Result Token Fault → ℕ → Result (Token × ℕ) Fault
@@ -70,3 +82,59 @@ sized (Err e) n = Err e
 -- the bytes before the first delimiter
 abbrev pub run : List ℕ → List ℕ
 run bs = take (run_length bs) bs
+
+-- what stands behind `#`: the rest of `#(` or of a character, or a run up to a delimiter
+abbrev pub character_at : List ℕ → Result (Token × ℕ) Fault
+character_at [] = Err Syntax
+character_at (b ∷ bs) = sized (character_of (take (run_length bs + 1) (b ∷ bs))) (run_length bs + 3)
+
+abbrev pub hash_at : List ℕ → Result (Token × ℕ) Fault
+hash_at [] = Err Syntax
+hash_at (b ∷ bs) =
+    cond (b == 40) (Ok (token.OpenVector, 2))
+    (cond (b == 92) (character_at bs) (sized (hashed_of (run (b ∷ bs))) (run_length (b ∷ bs) + 1)))
+
+-- what stands behind a comma: `,@` (64) is a mark of its own
+abbrev pub comma_at : List ℕ → Result (Token × ℕ) Fault
+comma_at [] = Ok (token.Mark Unquote, 1)
+comma_at (b ∷ bs) = cond (b == 64) (Ok (token.Mark UnquoteSplicing, 2)) (Ok (token.Mark Unquote, 1))
+
+-- the character that stands for itself or for another behind a backslash
+abbrev pub escaped_of : ℕ → Option ℕ
+escaped_of b =
+    cond (b == 34) (Some 34) (cond (b == 92) (Some 92) (cond (b == 110) (Some 10) (cond (b == 116) (Some 9) None)))
+
+abbrev pub on_some : Option ℕ → Result (Token × ℕ) Fault → (ℕ → Result (Token × ℕ) Fault) → Result (Token × ℕ) Fault
+on_some None otherwise f = otherwise
+on_some (Some c) otherwise f = f c
+
+-- the rest of a string, behind its characters so far, perhaps a backslash, and `passed` bytes after the quote
+abbrev pub string_from : List ℕ → Bool → ℕ → List ℕ → Result (Token × ℕ) Fault
+string_from front escape passed [] = Err OpenString
+string_from front escape passed (b ∷ bs) =
+    cond escape
+    (on_some (escaped_of b) (Err (BadEscape passed)) (λ c. cond (nat_lt (length front) 65535) (string_from (front ++ c ∷ []) false (passed + 1) bs) (Err LongString)))
+    (cond (b == 34) (Ok (token.Str front, passed + 2))
+    (cond (b == 92) (string_from front true (passed + 1) bs)
+    (cond (nat_lt (length front) 65535) (string_from (front ++ b ∷ []) false (passed + 1) bs) (Err LongString))))
+
+-- what stands behind the quote that opens a string
+abbrev pub string_at : List ℕ → Result (Token × ℕ) Fault
+string_at bs = string_from [] false 0 bs
+
+abbrev pub atom_at : List ℕ → Result (Token × ℕ) Fault
+atom_at bs = sized (atom_of (run bs)) (run_length bs)
+
+-- the token at the front of a text
+abbrev pub token_at : List ℕ → Result (Token × ℕ) Fault
+token_at [] = Err Syntax
+token_at (b ∷ bs) =
+    cond (b == 40) (Ok (token.Open, 1)) (cond (b == 41) (Ok (token.Close, 1))
+    (cond (b == 39) (Ok (token.Mark Quote, 1)) (cond (b == 96) (Ok (token.Mark Quasiquote, 1))
+    (cond (b == 44) (comma_at bs) (cond (b == 34) (string_at bs) (cond (b == 35) (hash_at bs) (atom_at (b ∷ bs))))))))
+
+-- a string has at most 65,535 characters
+abbrev pub PutsCharacter : List ℕ → List ℕ → ℕ → Result (Unit {0}) TokenRefusal → Type 0
+PutsCharacter before now c (Ok u) = (nat_lt (length before) 65535 ≡ true) × (now ≡ before ++ c ∷ [])
+PutsCharacter before now c (Err refusal.NoMemory) = Unit {0}
+PutsCharacter before now c (Err (refusal.Fault f)) = (nat_lt (length before) 65535 ≡ false) × (f ≡ LongString)

@@ -1,6 +1,6 @@
-ghost use Rattle.std.specs.Prelude.{◌≡◌, IfOk, map};
+ghost use Rattle.std.specs.Prelude.{◌≡◌, ◌∷◌, IfOk};
 ghost use Rattle.tb_sexp.specs.Lexing as lexing;
-ghost use Rattle.tb_sexp.specs.Lexing.{Gives, atom_of, base_of, based_of, character_of, hashed_of, name_of};
+ghost use Rattle.tb_sexp.specs.Lexing.{Gives, atom_of, base_of, based_of, character_of, hashed_of, name_of, named_of, truth_of};
 
 use super::numbers::number;
 use super::scan::is_identifier;
@@ -50,14 +50,78 @@ pub fn atom(alloc: Global, run: &[u8]) -> Result<Token, TokenRefusal>
     }
 }
 
-fn base(b: u8) -> Option<u64>
-    ensures { result ≡ base_of b }
+/// The number whose base is given by the letter before it.
+fn based(letter: u8, run: &[u8]) -> Result<Token, Fault>
+    ensures { result ≡ based_of (base_of letter) run.now }
 {
-    match b {
-        b'b' => Some(2),
-        b'o' => Some(8),
-        b'd' => Some(10),
-        b'x' => Some(16),
-        _ => None,
+    match letter {
+        b'b' => number(2, run),
+        b'o' => number(8, run),
+        b'd' => number(10, run),
+        b'x' => number(16, run),
+        _ => Err(Fault::Syntax),
+    }
+}
+
+/// A truth value, behind which nothing may stand.
+fn truth(value: bool, rest: &[u8]) -> Result<Token, Fault>
+    ensures { result ≡ truth_of value rest.now }
+{
+    match rest {
+        [] => Ok(Token::Bool(value)),
+        _ => Err(Fault::Syntax),
+    }
+}
+
+fn lettered(letter: u8, rest: &[u8]) -> Result<Token, Fault>
+    ensures { result ≡ hashed_of (letter ∷ rest.now) }
+{
+    let lower = letter.to_ascii_lowercase();
+    if lower == b't' {
+        truth(true, rest)
+    } else if lower == b'f' {
+        truth(false, rest)
+    } else {
+        based(lower, rest)
+    }
+}
+
+/// The token that `#` and the bytes up to a delimiter are.
+pub fn hashed(run: &[u8]) -> Result<Token, Fault>
+    ensures { result ≡ hashed_of run.now }
+{
+    match run {
+        [] => Err(Fault::Syntax),
+        [letter, rest @ ..] => lettered(*letter, rest),
+    }
+}
+
+/// Whether the bytes are this word, letters in either case.
+fn is_folded(run: &[u8], word: &[u8]) -> bool
+    ensures { result ≡ lexing.is_folded run.now word.now }
+{
+    run.eq_ignore_ascii_case(word)
+}
+
+fn named(run: &[u8]) -> Result<Token, Fault>
+    ensures { result ≡ named_of run.now }
+{
+    if is_folded(run, b"space") {
+        Ok(Token::Char(b' '))
+    } else if is_folded(run, b"newline") {
+        Ok(Token::Char(b'\n'))
+    } else {
+        Err(Fault::Syntax)
+    }
+}
+
+/// The character that the bytes behind `#\` stand for: one byte, or one of two names.
+pub fn character(run: &[u8]) -> Result<Token, Fault>
+    ensures { result ≡ character_of run.now }
+{
+    match run {
+        [] => Err(Fault::Syntax),
+        [b] => Ok(Token::Char(*b)),
+        _ => named(run),
     }
 }

@@ -3,9 +3,11 @@
 
 mod atoms;
 mod datum;
+mod lexer;
 mod numbers;
 mod printer;
 mod scan;
+mod strings;
 mod token;
 
 pub use datum::{Datum, DatumRow, Node};

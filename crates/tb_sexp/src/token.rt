@@ -25,8 +25,8 @@ pub enum Token {
     Name(Bytes),
 }
 
-/// What is wrong where a token should begin. `BadEscape` has the number of the bytes that stand between the
-/// quote that opens the string and the backslash.
+/// What is wrong where a token should begin. `BadEscape` has the number of the bytes of the string, its opening
+/// quote included, that stand before the backslash.
 #[derive(Clone, Copy, Debug, PartialEq, Eq)]
 pub enum Fault {
     Syntax,
