@@ -5,3 +5,5 @@ pub mod Places
 pub mod Printing
 pub mod Tree
 pub mod View
+pub mod Frames
+pub mod Reading

@@ -1,7 +1,8 @@
 -- The plain data that the types of data are seen as.
 use Rattle.std.specs.Prelude.{List, [], ◌∷◌, Some, None}
+use Rattle.tb_sexp.specs.declared.datum.Node.{Node}
 use Rattle.tb_sexp.specs.declared.datum.Node.TheOpen.{Node-F, Datum-F}
-use Rattle.tb_sexp.specs.declared.datum.Node.TheFolds.{fold-Datum}
+use Rattle.tb_sexp.specs.declared.datum.Node.TheFolds.{fold-Node, fold-Datum}
 use Rattle.tb_sexp.specs.declared.datum.Datum.{Datum}
 use Rattle.tb_sexp.specs.Tree.{Tree, At, Shape, Nil, Truth, Fixnum, Character, String, Name, Proper, Dotted, Vector, Trees, none, more}
 
@@ -27,3 +28,6 @@ view_at d = At d.place d.node
 -- a datum as a tree
 abbrev pub view : Datum → Tree
 view = fold-Datum Shape Tree view_in view_at
+
+abbrev pub view_node : Node → Shape
+view_node = fold-Node Shape Tree view_in view_at

@@ -3,12 +3,17 @@
 
 mod atoms;
 mod datum;
+mod frames;
 mod lexer;
 mod numbers;
+mod parser;
 mod printer;
+mod refusal;
 mod scan;
+mod stack;
 mod strings;
 mod token;
 
 pub use datum::{Datum, DatumRow, Node};
 pub use printer::print_datum;
+pub use refusal::ReadRefusal;
