@@ -123,7 +123,7 @@ abbrev pub string_at : List ℕ → Result (Token × ℕ) Fault
 string_at bs = string_from [] false 0 bs
 
 abbrev pub atom_at : List ℕ → Result (Token × ℕ) Fault
-atom_at bs = sized (atom_of (run bs)) (run_length bs)
+atom_at bs = cond (run_length bs == 0) (Err Syntax) (sized (atom_of (run bs)) (run_length bs))
 
 -- the token at the front of a text
 abbrev pub token_at : List ℕ → Result (Token × ℕ) Fault

@@ -7,3 +7,4 @@ pub mod Tree
 pub mod View
 pub mod Frames
 pub mod Reading
+pub mod Runs

@@ -1,4 +1,4 @@
-ghost use Rattle.std.specs.Prelude.{◌≡◌, ◌^◌, ◌<◌, length};
+ghost use Rattle.std.specs.Prelude.{◌≡◌, ◌+◌, ◌^◌, ◌<◌, ◌≤◌, IfOk, length};
 ghost use Rattle.tb_sexp.specs.Lexing.{Gives, atom_at, character_at, comma_at, hash_at, sized, token_at};
 
 use super::atoms::{atom, character, hashed};
@@ -9,7 +9,8 @@ use std::alloc::Global;
 
 /// The token with the number of its bytes.
 fn with_size(token: Result<Token, Fault>, size: usize) -> Result<(Token, usize), TokenRefusal>
-    ensures { Gives result (sized token size) }
+    ensures exact { Gives result (sized token size) }
+    ensures size { IfOk result (λ read. read.1 ≡ size) }
 {
     match token {
         Ok(token) => Ok((token, size)),
@@ -19,7 +20,8 @@ fn with_size(token: Result<Token, Fault>, size: usize) -> Result<(Token, usize),
 
 fn read_character(text: &[u8]) -> Result<(Token, usize), TokenRefusal>
     requires { length text.now < 2 ^ 32 }
-    ensures { Gives result (character_at text.now) }
+    ensures exact { Gives result (character_at text.now) }
+    ensures within { IfOk result (λ read. (0 < read.1) × (read.1 ≤ length text.now + 2)) }
 {
     match text {
         [] => Err(TokenRefusal::Fault(Fault::Syntax)),
@@ -32,7 +34,8 @@ fn read_character(text: &[u8]) -> Result<(Token, usize), TokenRefusal>
 
 fn read_hash(text: &[u8]) -> Result<(Token, usize), TokenRefusal>
     requires { length text.now < 2 ^ 32 }
-    ensures { Gives result (hash_at text.now) }
+    ensures exact { Gives result (hash_at text.now) }
+    ensures within { IfOk result (λ read. (0 < read.1) × (read.1 ≤ length text.now + 1)) }
 {
     match text {
         [] => Err(TokenRefusal::Fault(Fault::Syntax)),
@@ -46,7 +49,8 @@ fn read_hash(text: &[u8]) -> Result<(Token, usize), TokenRefusal>
 }
 
 fn read_comma(text: &[u8]) -> (Token, usize)
-    ensures { comma_at text.now ≡ Ok result }
+    ensures exact { comma_at text.now ≡ Ok result }
+    ensures within { (0 < result.1) × (result.1 ≤ length text.now + 1) }
 {
     match text {
         [b'@', ..] => (Token::Mark(Mark::UnquoteSplicing), 2),
@@ -56,9 +60,13 @@ fn read_comma(text: &[u8]) -> (Token, usize)
 
 fn read_atom(alloc: Global, text: &[u8]) -> Result<(Token, usize), TokenRefusal>
     requires { length text.now < 2 ^ 32 }
-    ensures { Gives result (atom_at text.now) }
+    ensures exact { Gives result (atom_at text.now) }
+    ensures within { IfOk result (λ read. (0 < read.1) × (read.1 ≤ length text.now)) }
 {
     let size = run_length(text);
+    if size == 0 {
+        return Err(TokenRefusal::Fault(Fault::Syntax));
+    }
     match atom(alloc, &text[..size]) {
         Ok(token) => Ok((token, size)),
         Err(refusal) => Err(refusal),
@@ -68,7 +76,8 @@ fn read_atom(alloc: Global, text: &[u8]) -> Result<(Token, usize), TokenRefusal>
 /// The token at the front of the text, with the number of its bytes.
 pub fn read_token(alloc: Global, text: &[u8]) -> Result<(Token, usize), TokenRefusal>
     requires { length text.now < 2 ^ 32 }
-    ensures { Gives result (token_at text.now) }
+    ensures exact { Gives result (token_at text.now) }
+    ensures within { IfOk result (λ read. (0 < read.1) × (read.1 ≤ length text.now)) }
 {
     match text {
         [] => Err(TokenRefusal::Fault(Fault::Syntax)),

@@ -8,6 +8,7 @@ mod lexer;
 mod numbers;
 mod parser;
 mod printer;
+mod reader;
 mod refusal;
 mod scan;
 mod stack;
@@ -16,4 +17,5 @@ mod token;
 
 pub use datum::{Datum, DatumRow, Node};
 pub use printer::print_datum;
+pub use reader::read_all;
 pub use refusal::ReadRefusal;

@@ -101,7 +101,7 @@ fn dotted_node(alloc: Global, elements: Vec<Datum>, tail: Datum) -> Result<Node,
 }
 
 /// Whether a datum can stand here. What is open stays as it is.
-fn takes_datum(open: &mut Open) -> Result<bool, NoMemory>
+pub fn takes_datum(open: &mut Open) -> Result<bool, NoMemory>
     ensures same { OnOk result (view_state open.new ≡ view_state open.old) }
     ensures exact { IfOk result (λ takes. takes ≡ reading.takes_datum (map view_frame open.old.frames)) }
 {

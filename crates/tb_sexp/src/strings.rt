@@ -1,4 +1,4 @@
-ghost use Rattle.std.specs.Prelude.{◌≡◌, ◌^◌, ◌<◌, length};
+ghost use Rattle.std.specs.Prelude.{◌≡◌, ◌+◌, ◌^◌, ◌<◌, ◌≤◌, IfOk, length};
 ghost use Rattle.tb_sexp.specs.Lexing.{Gives, PutsCharacter, escaped_of, string_at};
 
 use super::token::{Fault, Token, TokenRefusal};
@@ -36,7 +36,8 @@ fn put_character(characters: &mut Vec<u8>, c: u8) -> Result<(), TokenRefusal>
 /// The string whose opening quote stands before the text, with the number of its bytes.
 pub fn string(alloc: Global, text: &[u8]) -> Result<(Token, usize), TokenRefusal>
     requires { length text.now < 2 ^ 32 }
-    ensures { Gives result (string_at text.now) }
+    ensures exact { Gives result (string_at text.now) }
+    ensures within { IfOk result (λ read. (0 < read.1) × (read.1 ≤ length text.now + 1)) }
 {
     let mut characters = Vec::new(alloc);
     let mut is_escaped = false;
