@@ -1,5 +1,5 @@
 -- One turn of reading: the blanks in front, and then the end of the text or a token.
-use Rattle.std.proofs.Common.{◌≡◌, ℕ, suc, Bool, true, false, List, [], ◌∷◌, length, take, drop, refl, sym, ap, ◌∙◌, subst, arith}
+use Rattle.std.proofs.Common.{◌≡◌, ℕ, true, false, List, [], ◌∷◌, length, take, drop, refl, sym, ap, ◌∙◌, subst, arith}
 use Rattle.std.specs.Prelude.{◌==◌, Result, Ok, Err}
 use Rattle.std.proofs.lemmas.Bool.Decides.{nat_tests}
 use Rattle.tb_prim.specs.declared.place.Place.{Place}
@@ -9,7 +9,7 @@ use Rattle.tb_sexp.specs.Bytes.{blanks}
 use Rattle.tb_sexp.specs.Frames.{State}
 use Rattle.tb_sexp.specs.Places.{behind_all}
 use Rattle.tb_sexp.specs.Reading.{Refuses, finish}
-use Rattle.tb_sexp.specs.Runs.{ReadsFrom, blank, refused, taken, take_token, ReadAs, RefusedWith}
+use Rattle.tb_sexp.specs.Runs.{ReadsFrom, blank, refused, taken, take_token, ReadAs}
 use Rattle.tb_sexp.specs.Tree.{Tree}
 
 pub read_as : (r : Result (List Tree) ReadRefusal) (P : Result (List Tree) ReadRefusal → Type 0) → P r → ReadAs r P

@@ -1,5 +1,5 @@
 -- What is open while data are read: the data so far, and the lists, vectors and marks that are not finished.
-use Rattle.std.specs.Prelude.{ℕ, ◌==◌, nat_lt, Bool, true, false, cond, List, [], ◌∷◌, ◌++◌, length, map, codes, Result, Ok, Err}
+use Rattle.std.specs.Prelude.{ℕ, List, [], ◌∷◌, ◌++◌, map, codes}
 use Rattle.tb_prim.specs.declared.place.Place.{Place}
 use Rattle.tb_sexp.specs.declared.token.Mark.{Mark}
 use Rattle.tb_sexp.specs.declared.token.Mark.TheVariants.{Quote, Quasiquote, Unquote, UnquoteSplicing}

@@ -1,7 +1,6 @@
 -- What one token does to the data that are being read.
-use Rattle.std.specs.Prelude.{ℕ, ◌≡◌, ◌==◌, nat_lt, Bool, true, false, cond, List, [], ◌∷◌, ◌++◌, length, take, Result, Ok, Err}
+use Rattle.std.specs.Prelude.{ℕ, ◌≡◌, ◌==◌, nat_lt, Bool, true, false, cond, List, [], ◌∷◌, length, take, Result, Ok, Err}
 use Rattle.tb_prim.specs.declared.place.Place.{Place}
-use Rattle.tb_sexp.specs.declared.token.Mark.{Mark}
 use Rattle.tb_sexp.specs.declared.token.Token.{Token}
 use Rattle.tb_sexp.specs.declared.token.Token.TheVariants as token
 use Rattle.tb_sexp.specs.declared.token.Fault.{Fault}

@@ -6,8 +6,6 @@ ghost use Rattle.tb_sexp.specs.Tree.{At, Dotted};
 ghost use Rattle.tb_sexp.specs.View.{trees, view, view_node};
 
 use super::frames::{Frame, Open, give, list_node};
-
-
 use super::scan::blanks;
 use super::token::Token;
 use super::{Datum, DatumRow, Node, ReadRefusal};
@@ -164,7 +162,12 @@ fn dot(open: &mut Open, place: Place) -> Result<(), ReadRefusal>
 }
 
 /// Begins a list, a vector or a mark. `deep` says what is wrong where too many are not finished.
-fn begin_frame(open: &mut Open, place: Place, frame: Frame, deep: ReadRefusal) -> Result<(), ReadRefusal>
+fn begin_frame(
+    open: &mut Open,
+    place: Place,
+    frame: Frame,
+    deep: ReadRefusal,
+) -> Result<(), ReadRefusal>
     ensures { Accepts (begin (view_state open.old) place (view_frame frame) deep) result (view_state open.new) }
 {
     if !takes_datum(open)? {
@@ -201,7 +204,13 @@ fn put_datum(alloc: Global, open: &mut Open, place: Place, node: Node) -> Result
 }
 
 /// Goes on with one token, which stands at the place and before the rest of the text.
-pub fn accept_token(alloc: Global, open: &mut Open, place: Place, token: Token, rest: &[u8]) -> Result<(), ReadRefusal>
+pub fn accept_token(
+    alloc: Global,
+    open: &mut Open,
+    place: Place,
+    token: Token,
+    rest: &[u8],
+) -> Result<(), ReadRefusal>
     ensures { Accepts (accept (view_state open.old) place token rest.now) result (view_state open.new) }
 {
     match token {

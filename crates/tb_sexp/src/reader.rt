@@ -21,7 +21,11 @@ fn front(text: &[u8], count: usize) -> &[u8]
     ensures exact { result.now ≡ take count text.now }
     ensures within { length result.now ≤ length text.now }
 {
-    if count <= text.len() { &text[..count] } else { text }
+    if count <= text.len() {
+        &text[..count]
+    } else {
+        text
+    }
 }
 
 /// What a fault at the place, where the text stands, is to the reader.
@@ -39,7 +43,12 @@ fn refusal_at(fault: Fault, place: Place, text: &[u8]) -> ReadRefusal
     }
 }
 
-fn failed_at(open: &mut Open, fault: Fault, place: Place, text: &[u8]) -> Result<ReadRefusal, NoMemory>
+fn failed_at(
+    open: &mut Open,
+    fault: Fault,
+    place: Place,
+    text: &[u8],
+) -> Result<ReadRefusal, NoMemory>
     requires { HasRoom place (length text.now) }
     ensures { IfOk result (λ refusal. refusal ≡ failed (view_state open.old) fault place text.now) }
 {
@@ -51,7 +60,12 @@ fn failed_at(open: &mut Open, fault: Fault, place: Place, text: &[u8]) -> Result
 }
 
 /// Takes the token at the front of the text, which stands at the place, and says how many bytes it has.
-fn take_token(alloc: Global, open: &mut Open, place: Place, text: &[u8]) -> Result<usize, ReadRefusal>
+fn take_token(
+    alloc: Global,
+    open: &mut Open,
+    place: Place,
+    text: &[u8],
+) -> Result<usize, ReadRefusal>
     requires { HasRoom place (length text.now) }
     ensures exact { Takes (runs.take_token (view_state open.old) place text.now) result (view_state open.new) }
     ensures within { IfOk result (λ size. (0 < size) × (size ≤ length text.now)) }

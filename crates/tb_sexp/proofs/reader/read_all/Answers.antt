@@ -1,4 +1,4 @@
-use Rattle.std.proofs.Common.{◌≡◌, ◌-◌, length, sym, ◌∙◌, arith}
+use Rattle.std.proofs.Common.{◌-◌, length, sym, ◌∙◌, arith}
 use Rattle.tb_sexp.specs.Frames.{view_state}
 use Rattle.tb_sexp.specs.Places.{text_start}
 use Rattle.tb_sexp.specs.Runs.{ReadsFrom, nothing}
@@ -28,8 +28,8 @@ pub loop-tokens-preserved : goal.loop-tokens-preserved
 loop-tokens-preserved c = record {
   room = room-fewer c.pass-place.result (length c.behind-tokens.result.now - c.in-Ok.size) (length c.behind-rest.result.now) (omega arith) c.pass-place.ensures.room;
   reads = goes_on (view_state c.loop-tokens.open) (view_state c.take_token.new.open) c.loop-tokens.place c.pass-start.result c.pass-place.result
-  c.loop-tokens.rest.now c.behind-tokens.result.now c.behind-rest.result.now c.in-Ok.size
-  (ReadsFrom nothing (text_start c.args.library) c.args.text.now) c.loop-tokens.invariant.reads
-  (behind_blanks _ _ _ _ c.blanks-count.result c.blanks-count.ensures.exact c.pass-start.ensures.exact c.behind-tokens.ensures.exact)
-  (sym c.is_empty.ensures ∙ c.if-is_empty.false) c.in-Ok.ensures.exact c.pass-place.ensures.exact c.behind-rest.ensures.exact;
+      c.loop-tokens.rest.now c.behind-tokens.result.now c.behind-rest.result.now c.in-Ok.size
+      (ReadsFrom nothing (text_start c.args.library) c.args.text.now) c.loop-tokens.invariant.reads
+      (behind_blanks _ _ _ _ c.blanks-count.result c.blanks-count.ensures.exact c.pass-start.ensures.exact c.behind-tokens.ensures.exact)
+      (sym c.is_empty.ensures ∙ c.if-is_empty.false) c.in-Ok.ensures.exact c.pass-place.ensures.exact c.behind-rest.ensures.exact;
 }
