@@ -1,0 +1,10 @@
+pub mod Bytes
+pub mod Lexing
+pub mod Numbers
+pub mod Places
+pub mod Printing
+pub mod Tree
+pub mod View
+pub mod Frames
+pub mod Reading
+pub mod Runs

@@ -1,0 +1,21 @@
+//! Data as they are written: what a text spells, and the one printed text of a datum.
+#![tactic(auto)]
+
+mod atoms;
+mod datum;
+mod frames;
+mod lexer;
+mod numbers;
+mod parser;
+mod printer;
+mod reader;
+mod refusal;
+mod scan;
+mod stack;
+mod strings;
+mod token;
+
+pub use datum::{Datum, DatumRow, Node};
+pub use printer::print_datum;
+pub use reader::read_all;
+pub use refusal::ReadRefusal;

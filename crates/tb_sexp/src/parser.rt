@@ -1,0 +1,243 @@
+ghost use Rattle.std.specs.Prelude.{◌≡◌, map, IfOk, OnOk};
+ghost use Rattle.tb_sexp.specs.Frames.{dotted, front_of, view_frame, view_state};
+ghost use Rattle.tb_sexp.specs.Reading as reading;
+ghost use Rattle.tb_sexp.specs.Reading.{Accepts, accept, begin, deep_mark};
+ghost use Rattle.tb_sexp.specs.Tree.{At, Dotted};
+ghost use Rattle.tb_sexp.specs.View.{trees, view, view_node};
+
+use super::frames::{Frame, Open, give, list_node};
+use super::scan::blanks;
+use super::token::Token;
+use super::{Datum, DatumRow, Node, ReadRefusal};
+use sqlite_items::Boxed;
+use std::alloc::Global;
+use tb_prim::{NoMemory, Place, Row};
+
+/// The most lists, vectors and marks that are not finished.
+const DEPTH: usize = 256;
+
+fn joined(mut front: Vec<Datum>, mut back: Vec<Datum>) -> Result<Vec<Datum>, NoMemory>
+    ensures { IfOk result (λ elements. trees (map view elements.items) ≡ front_of (map view front.items) (trees (map view back.items))) }
+{
+    front.append(&mut back)?;
+    Ok(front)
+}
+
+fn dotted_row(elements: DatumRow, tail: Boxed<Datum>) -> Node
+    ensures { view_node result ≡ Dotted (trees (map view elements)) (view tail) }
+{
+    Node::List(elements, Some(tail))
+}
+
+fn with_tail(alloc: Global, elements: Vec<Datum>, tail: Datum) -> Result<Node, NoMemory>
+    ensures { IfOk result (λ node. view_node node ≡ Dotted (trees (map view elements.items)) (view tail)) }
+{
+    let boxed = Boxed::new(alloc, tail)?;
+    Ok(dotted_row(Row::from_vec(elements), boxed))
+}
+
+/// The dotted list, or the list that it denotes where its tail is one.
+fn dotted_node(alloc: Global, elements: Vec<Datum>, tail: Datum) -> Result<Node, NoMemory>
+    ensures { IfOk result (λ node. view_node node ≡ dotted (map view elements.items) (view tail)) }
+{
+    let Datum { place, node } = tail;
+    match node {
+        Node::Nil => Ok(list_node(elements)),
+        Node::List(more, end) => {
+            let all = joined(elements, more.into_vec())?;
+            Ok(Node::List(Row::from_vec(all), end))
+        }
+        Node::Bool(b) => with_tail(
+            alloc,
+            elements,
+            Datum {
+                place,
+                node: Node::Bool(b),
+            },
+        ),
+        Node::Fix(n) => with_tail(
+            alloc,
+            elements,
+            Datum {
+                place,
+                node: Node::Fix(n),
+            },
+        ),
+        Node::Char(c) => with_tail(
+            alloc,
+            elements,
+            Datum {
+                place,
+                node: Node::Char(c),
+            },
+        ),
+        Node::Str(text) => with_tail(
+            alloc,
+            elements,
+            Datum {
+                place,
+                node: Node::Str(text),
+            },
+        ),
+        Node::Name(text, alias) => with_tail(
+            alloc,
+            elements,
+            Datum {
+                place,
+                node: Node::Name(text, alias),
+            },
+        ),
+        Node::Vector(items) => with_tail(
+            alloc,
+            elements,
+            Datum {
+                place,
+                node: Node::Vector(items),
+            },
+        ),
+    }
+}
+
+/// Whether a datum can stand here. What is open stays as it is.
+pub fn takes_datum(open: &mut Open) -> Result<bool, NoMemory>
+    ensures same { OnOk result (view_state open.new ≡ view_state open.old) }
+    ensures exact { IfOk result (λ takes. takes ≡ reading.takes_datum (map view_frame open.old.frames)) }
+{
+    match open.frames.pop() {
+        None => Ok(true),
+        Some(Frame::AfterTail(place, elements, tail)) => {
+            open.frames.push(Frame::AfterTail(place, elements, tail))?;
+            Ok(false)
+        }
+        Some(frame) => {
+            open.frames.push(frame)?;
+            Ok(true)
+        }
+    }
+}
+
+fn close(alloc: Global, open: &mut Open, place: Place) -> Result<(), ReadRefusal>
+    ensures { Accepts (reading.close (map view open.old.finished.items) (map view_frame open.old.frames) place) result (view_state open.new) }
+{
+    match open.frames.pop() {
+        Some(Frame::List(start, elements)) => {
+            let node = list_node(elements);
+            give(alloc, open, Datum { place: start, node })?;
+            Ok(())
+        }
+        Some(Frame::AfterTail(start, elements, tail)) => {
+            let node = dotted_node(alloc, elements, tail)?;
+            give(alloc, open, Datum { place: start, node })?;
+            Ok(())
+        }
+        Some(Frame::Vector(start, elements)) => {
+            let node = Node::Vector(Row::from_vec(elements));
+            give(alloc, open, Datum { place: start, node })?;
+            Ok(())
+        }
+        Some(Frame::Mark(_, _)) => Err(ReadRefusal::Syntax(place)),
+        Some(Frame::AfterDot(_, _)) => Err(ReadRefusal::Syntax(place)),
+        None => Err(ReadRefusal::Syntax(place)),
+    }
+}
+
+fn dot(open: &mut Open, place: Place) -> Result<(), ReadRefusal>
+    ensures { Accepts (reading.dot (map view open.old.finished.items) (map view_frame open.old.frames) place) result (view_state open.new) }
+{
+    match open.frames.pop() {
+        Some(Frame::List(start, elements)) => {
+            if elements.is_empty() {
+                Err(ReadRefusal::Syntax(place))
+            } else {
+                open.frames.push(Frame::AfterDot(start, elements))?;
+                Ok(())
+            }
+        }
+        Some(Frame::Mark(_, _)) => Err(ReadRefusal::Syntax(place)),
+        Some(Frame::AfterDot(_, _)) => Err(ReadRefusal::Syntax(place)),
+        Some(Frame::AfterTail(_, _, _)) => Err(ReadRefusal::Syntax(place)),
+        Some(Frame::Vector(_, _)) => Err(ReadRefusal::Syntax(place)),
+        None => Err(ReadRefusal::Syntax(place)),
+    }
+}
+
+/// Begins a list, a vector or a mark. `deep` says what is wrong where too many are not finished.
+fn begin_frame(
+    open: &mut Open,
+    place: Place,
+    frame: Frame,
+    deep: ReadRefusal,
+) -> Result<(), ReadRefusal>
+    ensures { Accepts (begin (view_state open.old) place (view_frame frame) deep) result (view_state open.new) }
+{
+    if !takes_datum(open)? {
+        return Err(ReadRefusal::Syntax(place));
+    }
+    if open.frames.len() < DEPTH {
+        open.frames.push(frame)?;
+        Ok(())
+    } else {
+        Err(deep)
+    }
+}
+
+/// What is wrong with a mark that stands too deep. One that nothing follows is wrong anyway.
+fn deep_mark_refusal(place: Place, rest: &[u8]) -> ReadRefusal
+    ensures { result ≡ deep_mark place rest.now }
+{
+    if blanks(rest) == rest.len() {
+        ReadRefusal::Syntax(place)
+    } else {
+        ReadRefusal::TooDeep(place)
+    }
+}
+
+fn put_datum(alloc: Global, open: &mut Open, place: Place, node: Node) -> Result<(), ReadRefusal>
+    ensures { Accepts (reading.datum (view_state open.old) place (view_node node)) result (view_state open.new) }
+{
+    if takes_datum(open)? {
+        give(alloc, open, Datum { place, node })?;
+        Ok(())
+    } else {
+        Err(ReadRefusal::Syntax(place))
+    }
+}
+
+/// Goes on with one token, which stands at the place and before the rest of the text.
+pub fn accept_token(
+    alloc: Global,
+    open: &mut Open,
+    place: Place,
+    token: Token,
+    rest: &[u8],
+) -> Result<(), ReadRefusal>
+    ensures { Accepts (accept (view_state open.old) place token rest.now) result (view_state open.new) }
+{
+    match token {
+        Token::Open => begin_frame(
+            open,
+            place,
+            Frame::List(place, Vec::new(alloc)),
+            ReadRefusal::TooDeep(place),
+        ),
+        Token::OpenVector => begin_frame(
+            open,
+            place,
+            Frame::Vector(place, Vec::new(alloc)),
+            ReadRefusal::TooDeep(place),
+        ),
+        Token::Close => close(alloc, open, place),
+        Token::Mark(mark) => begin_frame(
+            open,
+            place,
+            Frame::Mark(place, mark),
+            deep_mark_refusal(place, rest),
+        ),
+        Token::Dot => dot(open, place),
+        Token::Bool(b) => put_datum(alloc, open, place, Node::Bool(b)),
+        Token::Fix(n) => put_datum(alloc, open, place, Node::Fix(n)),
+        Token::Char(c) => put_datum(alloc, open, place, Node::Char(c)),
+        Token::Str(text) => put_datum(alloc, open, place, Node::Str(text)),
+        Token::Name(text) => put_datum(alloc, open, place, Node::Name(text, 0)),
+    }
+}

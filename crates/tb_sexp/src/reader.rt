@@ -1,0 +1,146 @@
+ghost use Rattle.std.specs.Prelude.{◌≡◌, ◌+◌, ◌-◌, ◌≤◌, ◌<◌, map, IfOk, length, drop, take};
+ghost use Rattle.tb_sexp.specs.Frames.{view_frame, view_state};
+ghost use Rattle.tb_sexp.specs.Places.{HasRoom, behind_all};
+ghost use Rattle.tb_sexp.specs.Reading as reading;
+ghost use Rattle.tb_sexp.specs.Reading.{failed, refusal_of};
+ghost use Rattle.tb_sexp.specs.Runs as runs;
+ghost use Rattle.tb_sexp.specs.Runs.{Reads, Takes, shown};
+ghost use Rattle.tb_sexp.specs.View.{view};
+
+use super::frames::{Frame, Open};
+use super::lexer::read_token;
+use super::parser::{accept_token, takes_datum};
+use super::scan::{blanks, place_behind};
+use super::stack::Stack;
+use super::token::{Fault, TokenRefusal};
+use super::{Datum, ReadRefusal};
+use std::alloc::Global;
+use tb_prim::{NoMemory, Place};
+
+fn front(text: &[u8], count: usize) -> &[u8]
+    ensures exact { result.now ≡ take count text.now }
+    ensures within { length result.now ≤ length text.now }
+{
+    if count <= text.len() {
+        &text[..count]
+    } else {
+        text
+    }
+}
+
+/// What a fault at the place, where the text stands, is to the reader.
+fn refusal_at(fault: Fault, place: Place, text: &[u8]) -> ReadRefusal
+    requires { HasRoom place (length text.now) }
+    ensures { result ≡ refusal_of fault place text.now }
+{
+    match fault {
+        Fault::Syntax => ReadRefusal::Syntax(place),
+        Fault::LongName => ReadRefusal::TooLong(place),
+        Fault::BigNumber => ReadRefusal::TooBig(place),
+        Fault::LongString => ReadRefusal::TooLong(place),
+        Fault::BadEscape(count) => ReadRefusal::Syntax(place_behind(place, front(text, count))),
+        Fault::OpenString => ReadRefusal::Unclosed(place),
+    }
+}
+
+fn failed_at(
+    open: &mut Open,
+    fault: Fault,
+    place: Place,
+    text: &[u8],
+) -> Result<ReadRefusal, NoMemory>
+    requires { HasRoom place (length text.now) }
+    ensures { IfOk result (λ refusal. refusal ≡ failed (view_state open.old) fault place text.now) }
+{
+    if takes_datum(open)? {
+        Ok(refusal_at(fault, place, text))
+    } else {
+        Ok(ReadRefusal::Syntax(place))
+    }
+}
+
+/// Takes the token at the front of the text, which stands at the place, and says how many bytes it has.
+fn take_token(
+    alloc: Global,
+    open: &mut Open,
+    place: Place,
+    text: &[u8],
+) -> Result<usize, ReadRefusal>
+    requires { HasRoom place (length text.now) }
+    ensures exact { Takes (runs.take_token (view_state open.old) place text.now) result (view_state open.new) }
+    ensures within { IfOk result (λ size. (0 < size) × (size ≤ length text.now)) }
+{
+    match read_token(alloc, text) {
+        Ok((token, size)) => {
+            accept_token(alloc, open, place, token, &text[size..])?;
+            Ok(size)
+        }
+        Err(TokenRefusal::NoMemory) => Err(ReadRefusal::NoMemory),
+        Err(TokenRefusal::Fault(fault)) => Err(failed_at(open, fault, place, text)?),
+    }
+}
+
+/// The data, at the end of the text.
+fn finish(mut open: Open) -> Result<Vec<Datum>, ReadRefusal>
+    ensures { shown (λ items_read. map view items_read.items) result ≡ (reading.finish (map view open.finished.items) (map view_frame open.frames)) }
+{
+    match open.frames.pop() {
+        None => Ok(open.finished),
+        Some(Frame::Mark(place, _)) => Err(ReadRefusal::Syntax(place)),
+        Some(Frame::List(place, _)) => Err(ReadRefusal::Unclosed(place)),
+        Some(Frame::AfterDot(place, _)) => Err(ReadRefusal::Unclosed(place)),
+        Some(Frame::AfterTail(place, _, _)) => Err(ReadRefusal::Unclosed(place)),
+        Some(Frame::Vector(place, _)) => Err(ReadRefusal::Unclosed(place)),
+    }
+}
+
+/// The text behind so many bytes.
+fn behind(text: &[u8], count: usize) -> &[u8]
+    requires { count ≤ length text.now }
+    ensures exact { result.now ≡ drop count text.now }
+    ensures size { length result.now + count ≡ length text.now }
+{
+    &text[count..]
+}
+
+/// The place behind so many bytes of the text, which stands at the place.
+fn pass(place: Place, text: &[u8], count: usize) -> Place
+    requires room { HasRoom place (length text.now) }
+    requires within { count ≤ length text.now }
+    ensures exact { result ≡ behind_all place (take count text.now) }
+    ensures room { HasRoom result (length text.now - count) }
+{
+    place_behind(place, front(text, count))
+}
+
+/// The data that the text spells, or its first refusal. `library` says whose places they have.
+pub fn read_all(alloc: Global, text: &[u8], library: bool) -> Result<Vec<Datum>, ReadRefusal>
+    requires { length text.now ≤ 4194304 }
+    ensures { Reads library text.now (shown (λ items_read. map view items_read.items) result) }
+{
+    let mut open = Open {
+        finished: Vec::new(alloc),
+        frames: Stack::new(alloc),
+    };
+    let mut place = Place {
+        library,
+        line: 1,
+        column: 1,
+    };
+    let mut rest = text;
+    loop {
+        let count = blanks(rest);
+        let start = pass(place, rest, count);
+        let tokens = behind(rest, count);
+        if tokens.is_empty() {
+            return finish(open);
+        }
+        match take_token(alloc, &mut open, start, tokens) {
+            Ok(size) => {
+                place = pass(start, tokens, size);
+                rest = behind(tokens, size);
+            }
+            Err(refusal) => return Err(refusal),
+        }
+    }
+}
