@@ -9,5 +9,6 @@ pub mod Reference
 pub mod Events
 pub mod Space
 pub mod Width
+pub mod Limits
 pub mod Rules
 pub mod Examples
