@@ -10,3 +10,5 @@ pub mod Lines
 pub mod Fits
 pub mod Kept
 pub mod NeverLost
+pub mod Views
+pub mod Judging

@@ -81,7 +81,7 @@ program_measures p = forms_measures (lambdas_measures p.lambdas 0) p.forms
 
 -- a measure against its limit. A width counts also by its square, which is added to those before it: the answer
 -- is the sum of the squared widths so far, or the offence
-abbrev pub judged : ℕ → Measure → Result ℕ CoreRefusal
+unfoldable pub judged : ℕ → Measure → Result ℕ CoreRefusal
 judged squares (Operands p n) = cond (nat_lt 12 n) (Err (CoreRefusal.TooManyArgs p)) (Ok squares)
 judged squares (Depth p n) = cond (nat_lt 1000 n) (Err (CoreRefusal.TooDeep p)) (Ok squares)
 judged squares (Width p n) =
@@ -99,8 +99,3 @@ judge r (m ∷ ms) = judge (judged_after r m) ms
 -- the first offence of a program, or the sum of its squared widths
 abbrev pub judge_program : ProgramTree → Result ℕ CoreRefusal
 judge_program p = judge (Ok 0) (program_measures p)
-
--- the answer without the sum
-abbrev pub refusal_of : Result ℕ CoreRefusal → Result (Unit {0}) CoreRefusal
-refusal_of (Ok squares) = Ok tt
-refusal_of (Err e) = Err e

@@ -18,6 +18,6 @@ pub use laws::{
     no_run_is_lost, order_at_nodes, space_counts_once, space_is_within_made, stopped_stays,
     windows_are_finite,
 };
-pub use limits::CoreRefusal;
+pub use limits::{CoreRefusal, check};
 pub use program::{Lambda, LambdaRow, Program};
 pub use rules::{program_keeps_rules, worked_rules};

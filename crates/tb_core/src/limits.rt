@@ -1,9 +1,9 @@
-ghost use Rattle.std.specs.Prelude.{◌≡◌, ◌+◌, ◌≤◌, ◌<◌, ◌*◌, ◌^◌, ◌++◌, [], ◌∷◌, length, map, Ok, Err, IfOk, OnOk, MatchOption};
-ghost use Rattle.tb_core.specs.Limits.{Operands, Depth, Width, measures, measures_all, measures_of_lambdas, lambdas_measures, judged, judge};
+ghost use Rattle.std.specs.Prelude.{◌≡◌, ◌+◌, ◌≤◌, ◌<◌, ◌*◌, ◌^◌, length, map, drop, Ok, Err, IfOk, OnOk, IsOk, MatchOption, MatchResult};
+ghost use Rattle.tb_core.specs.Limits.{Operands, Depth, Width, measures, measures_all, measures_of_lambdas, lambdas_measures, call_measures, form_measures, forms_measures, judged, judge, judge_program};
 ghost use Rattle.tb_core.specs.Width as widths;
-ghost use Rattle.tb_core.specs.View.{view, trees, view_lambda};
+ghost use Rattle.tb_core.specs.View.{view, view_core, trees, view_lambda, view_program};
 
-use super::{Core, Expr, Lambda, LambdaId};
+use super::{Core, Expr, Lambda, LambdaId, Program};
 use tb_prim::Place;
 
 /// The most operands of a call, and the most parameters of a lambda expression, the rest one counted.
@@ -82,6 +82,7 @@ fn nodes_left_of_all(mut left: usize, exprs: &[Expr]) -> Option<usize>
 }
 
 /// The depth of a node against its limit.
+#[tactic(auto, unfolding(crate::specs::Limits::judged))]
 fn check_depth(squares: usize, place: Place, depth: u32) -> Result<usize, CoreRefusal>
     ensures value { result ≡ judged squares (Depth place depth) }
     ensures depth { OnOk result (depth ≤ 1000) }
@@ -95,6 +96,7 @@ fn check_depth(squares: usize, place: Place, depth: u32) -> Result<usize, CoreRe
 }
 
 /// A count of operands or parameters against its limit.
+#[tactic(auto, unfolding(crate::specs::Limits::judged))]
 fn check_operands(squares: usize, place: Place, count: usize) -> Result<usize, CoreRefusal>
     ensures value { result ≡ judged squares (Operands place count) }
     ensures count { OnOk result (count ≤ 12) }
@@ -108,6 +110,7 @@ fn check_operands(squares: usize, place: Place, count: usize) -> Result<usize, C
 }
 
 /// The width of a body or form, from the variables in scope at its start, against both limits.
+#[tactic(auto, unfolding(crate::specs::Limits::judged))]
 fn check_width(squares: usize, place: Place, scope: u128, body: &Expr) -> Result<usize, CoreRefusal>
     requires { squares ≤ 1048576 }
     ensures value { result ≡ judged squares (Width place (scope + widths.nodes (view body.now))) }
@@ -129,4 +132,261 @@ fn check_width(squares: usize, place: Place, scope: u128, body: &Expr) -> Result
             }
         }
     }
+}
+
+/// The lambda expressions after the one at an index.
+fn after(lambdas: &[Lambda], index: usize) -> &[Lambda]
+    requires { index < length lambdas.now }
+    ensures { result.now ≡ drop (index + 1) lambdas.now }
+{
+    &lambdas[index + 1..]
+}
+
+/// The first offence of an expression, or the sum of the squared widths after it. The number of the first of
+/// the lambda expressions is `first`, and those in the expression are among them. Goes no deeper than 1,001
+/// nodes.
+#[cycle(check)]
+#[tactic(auto, using(crate::proofs::Judging::judging))]
+fn check_expr(
+    lambdas: &[Lambda],
+    first: usize,
+    scope: u128,
+    depth: u32,
+    squares: usize,
+    expr: &Expr,
+) -> Result<usize, CoreRefusal>
+    requires depth { depth ≤ 1001 }
+    requires scope { scope ≤ depth * 2 ^ 65 }
+    requires small { squares ≤ 1048576 }
+    ensures value { result ≡ judge (Ok squares) (measures (lambdas_measures (map view_lambda lambdas.now) first) scope depth (view expr.now)) }
+    ensures small { IfOk result (λ sum. sum ≤ 1048576) }
+{
+    match &expr.core {
+        Core::Quote(_) | Core::Local(_) | Core::Global(_) => check_depth(
+            squares, expr.place, depth,
+        ),
+        Core::Lambda(number) => check_lambda(lambdas, first, scope, depth, squares, *number),
+        Core::If(test, then, other) => {
+            let squares = check_depth(squares, expr.place, depth)?;
+            let squares = check_expr(lambdas, first, scope, depth + 1, squares, test.get())?;
+            let squares = check_expr(lambdas, first, scope, depth + 1, squares, then.get())?;
+            check_expr(lambdas, first, scope, depth + 1, squares, other.get())
+        }
+        Core::SetLocal(_, value) => {
+            let squares = check_depth(squares, expr.place, depth)?;
+            check_expr(lambdas, first, scope, depth + 1, squares, value.get())
+        }
+        Core::SetGlobal(_, value) => {
+            let squares = check_depth(squares, expr.place, depth)?;
+            check_expr(lambdas, first, scope, depth + 1, squares, value.get())
+        }
+        Core::DefGlobal(_, value) => {
+            let squares = check_depth(squares, expr.place, depth)?;
+            check_expr(lambdas, first, scope, depth + 1, squares, value.get())
+        }
+        Core::Let(variables, values, body) => {
+            let squares = check_depth(squares, expr.place, depth)?;
+            let squares = check_exprs(
+                lambdas,
+                first,
+                scope,
+                depth + 1,
+                squares,
+                values.as_slice(),
+            )?;
+            let inside = scope + variables.as_slice().len() as u128;
+            check_expr(lambdas, first, inside, depth + 1, squares, body.get())
+        }
+        Core::Letrec(variables, numbers, body) => {
+            let squares = check_depth(squares, expr.place, depth)?;
+            let inside = scope + variables.as_slice().len() as u128;
+            let squares = check_lambdas(
+                lambdas,
+                first,
+                inside,
+                depth,
+                squares,
+                numbers.as_slice(),
+            )?;
+            check_expr(lambdas, first, inside, depth + 1, squares, body.get())
+        }
+        Core::Seq(exprs) => {
+            let squares = check_depth(squares, expr.place, depth)?;
+            check_exprs(lambdas, first, scope, depth + 1, squares, exprs.as_slice())
+        }
+        Core::Call(operator, operands) => {
+            let squares = check_operands(squares, expr.place, operands.as_slice().len())?;
+            let squares = check_depth(squares, expr.place, depth)?;
+            let squares = check_expr(lambdas, first, scope, depth + 1, squares, operator.get())?;
+            check_exprs(
+                lambdas,
+                first,
+                scope,
+                depth + 1,
+                squares,
+                operands.as_slice(),
+            )
+        }
+        Core::Prim(_, operands) => {
+            let squares = check_depth(squares, expr.place, depth)?;
+            check_exprs(
+                lambdas,
+                first,
+                scope,
+                depth + 1,
+                squares,
+                operands.as_slice(),
+            )
+        }
+        Core::Apply(procedure, list) => {
+            let squares = check_depth(squares, expr.place, depth)?;
+            let squares = check_expr(lambdas, first, scope, depth + 1, squares, procedure.get())?;
+            check_expr(lambdas, first, scope, depth + 1, squares, list.get())
+        }
+    }
+}
+
+/// The same of these expressions, one after another.
+#[cycle(check)]
+#[tactic(auto, using(crate::proofs::Judging::judging))]
+fn check_exprs(
+    lambdas: &[Lambda],
+    first: usize,
+    scope: u128,
+    depth: u32,
+    mut squares: usize,
+    exprs: &[Expr],
+) -> Result<usize, CoreRefusal>
+    requires depth { depth ≤ 1001 }
+    requires scope { scope ≤ depth * 2 ^ 65 }
+    requires small { squares ≤ 1048576 }
+    ensures value { result ≡ judge (Ok squares) (measures_all (lambdas_measures (map view_lambda lambdas.now) first) scope depth (trees (map view exprs.now))) }
+    ensures small { IfOk result (λ sum. sum ≤ 1048576) }
+{
+    for expr in exprs {
+        squares = check_expr(lambdas, first, scope, depth, squares, expr)?;
+    }
+    Ok(squares)
+}
+
+/// The same of the lambda expressions of a `letrec`, one after another.
+#[cycle(check)]
+#[tactic(auto, using(crate::proofs::Judging::judging))]
+fn check_lambdas(
+    lambdas: &[Lambda],
+    first: usize,
+    scope: u128,
+    depth: u32,
+    mut squares: usize,
+    numbers: &[LambdaId],
+) -> Result<usize, CoreRefusal>
+    requires depth { depth ≤ 1001 }
+    requires scope { scope ≤ depth * 2 ^ 65 + 2 ^ 64 }
+    requires small { squares ≤ 1048576 }
+    ensures value { result ≡ judge (Ok squares) (measures_of_lambdas (lambdas_measures (map view_lambda lambdas.now) first) scope depth numbers.now) }
+    ensures small { IfOk result (λ sum. sum ≤ 1048576) }
+{
+    for number in numbers {
+        squares = check_lambda(lambdas, first, scope, depth, squares, *number)?;
+    }
+    Ok(squares)
+}
+
+/// The same of a lambda expression by its number, with the variables in scope and the depth of the node where it
+/// stands.
+#[cycle(check)]
+#[tactic(auto, using(crate::proofs::Judging::judging))]
+fn check_lambda(
+    lambdas: &[Lambda],
+    first: usize,
+    scope: u128,
+    depth: u32,
+    squares: usize,
+    number: LambdaId,
+) -> Result<usize, CoreRefusal>
+    requires depth { depth ≤ 1001 }
+    requires scope { scope ≤ depth * 2 ^ 65 + 2 ^ 64 }
+    requires small { squares ≤ 1048576 }
+    ensures value { result ≡ judge (Ok squares) (lambdas_measures (map view_lambda lambdas.now) first number scope depth) }
+    ensures small { IfOk result (λ sum. sum ≤ 1048576) }
+{
+    let number = number as usize;
+    if number < first || lambdas.len() <= number - first {
+        return Ok(squares);
+    }
+    let index = number - first;
+    let lambda = &lambdas[index];
+    let count = lambda.parameter_count();
+    let squares = check_operands(squares, lambda.place, count)?;
+    let squares = check_depth(squares, lambda.place, depth)?;
+    let inside = scope + count as u128;
+    let squares = check_width(squares, lambda.place, inside, &lambda.body)?;
+    check_expr(
+        after(lambdas, index),
+        number + 1,
+        inside,
+        depth + 1,
+        squares,
+        &lambda.body,
+    )
+}
+
+/// The operands of an expression that is a call, against their limit.
+#[tactic(auto, using(crate::proofs::Judging::judging))]
+fn check_call(squares: usize, expr: &Expr) -> Result<usize, CoreRefusal>
+    ensures value { result ≡ judge (Ok squares) (call_measures expr.now.place (view_core expr.now.core)) }
+    ensures small { IfOk result (λ sum. sum ≡ squares) }
+{
+    match &expr.core {
+        Core::Call(_, operands) => check_operands(squares, expr.place, operands.as_slice().len()),
+        Core::Quote(_)
+        | Core::Local(_)
+        | Core::Global(_)
+        | Core::Lambda(_)
+        | Core::If(..)
+        | Core::SetLocal(..)
+        | Core::SetGlobal(..)
+        | Core::DefGlobal(..)
+        | Core::Let(..)
+        | Core::Letrec(..)
+        | Core::Seq(_)
+        | Core::Prim(..)
+        | Core::Apply(..) => Ok(squares),
+    }
+}
+
+/// The first offence of a form, or the sum of the squared widths after it.
+#[tactic(auto, using(crate::proofs::Judging::judging))]
+fn check_form(lambdas: &[Lambda], squares: usize, form: &Expr) -> Result<usize, CoreRefusal>
+    requires { squares ≤ 1048576 }
+    ensures value { result ≡ judge (Ok squares) (form_measures (lambdas_measures (map view_lambda lambdas.now) 0) (view form.now)) }
+    ensures small { IfOk result (λ sum. sum ≤ 1048576) }
+{
+    let squares = check_call(squares, form)?;
+    let squares = check_width(squares, form.place, 0, form)?;
+    check_expr(lambdas, 0, 0, 1, squares, form)
+}
+
+/// The same of these forms, one after another.
+#[tactic(auto, using(crate::proofs::Judging::judging))]
+fn check_forms(lambdas: &[Lambda], forms: &[Expr]) -> Result<usize, CoreRefusal>
+    ensures value { result ≡ judge (Ok 0) (forms_measures (lambdas_measures (map view_lambda lambdas.now) 0) (trees (map view forms.now))) }
+{
+    let mut squares = 0;
+    for form in forms {
+        squares = check_form(lambdas, squares, form)?;
+    }
+    Ok(squares)
+}
+
+/// Checks the limits of the core language: nodes nest at most 1,000 deep, a call has at most 12 operands and a
+/// lambda expression at most 12 parameters, the rest one counted, a body or form is at most 1,000 wide, and the
+/// sum of their squared widths is at most 1,048,576. Otherwise gives the first offence in written order, the
+/// number of operands of a node before its depth, and its depth before its width. Takes no memory, and goes no
+/// deeper than 1,001 nodes.
+pub fn check(program: &Program) -> Result<(), CoreRefusal>
+    ensures { MatchResult result (λ _. IsOk (judge_program (view_program program.now))) (λ refusal. judge_program (view_program program.now) ≡ Err refusal) }
+{
+    check_forms(program.lambdas.as_slice(), program.forms.as_slice())?;
+    Ok(())
 }
