@@ -5,6 +5,7 @@ use Rattle.std.proofs.lemmas.Bool.{ne_eqb, eq-eqb}
 use Rattle.std.proofs.lemmas.Grind.{common_steps}
 use Rattle.tb_prim.specs.declared.place.Place.{Place}
 use Rattle.tb_core.specs.declared.limits.CoreRefusal.{CoreRefusal}
+use Rattle.tb_core.specs.declared.limits.Totals.{Totals}
 use Rattle.tb_core.specs.declared.program.Lambda.{Lambda as LambdaCode}
 use Rattle.tb_core.specs.Tree.{LambdaTree}
 use Rattle.tb_core.specs.View.{view, view_lambda}
@@ -12,15 +13,15 @@ use Rattle.tb_core.specs.Width.{nodes}
 use Rattle.tb_core.proofs.Views.{viewed}
 use Rattle.tb_core.specs.Limits.{Measure, judged, judged_after, judge, lambda_measures, lambdas_measures}
 
-pub judge_none : (r : Result ℕ CoreRefusal) → judge r [] ≡ r
+pub judge_none : (r : Result Totals CoreRefusal) → judge r [] ≡ r
 unfolding judge
 judge_none r = refl
 
-pub judge_first : (q : ℕ) (m : Measure) (ms : List Measure) → judge (Ok q) (m ∷ ms) ≡ judge (judged q m) ms
+pub judge_first : (t : Totals) (m : Measure) (ms : List Measure) → judge (Ok t) (m ∷ ms) ≡ judge (judged t m) ms
 unfolding judge
-judge_first q m ms = refl
+judge_first t m ms = refl
 
-pub judge_append : (r : Result ℕ CoreRefusal) (ms ns : List Measure) → judge r (ms ++ ns) ≡ judge (judge r ms) ns
+pub judge_append : (r : Result Totals CoreRefusal) (ms ns : List Measure) → judge r (ms ++ ns) ≡ judge (judge r ms) ns
 unfolding judge
 judge_append r [] ns = refl
 judge_append r (m ∷ ms) ns = judge_append (judged_after r m) ms ns

@@ -1,7 +1,8 @@
 -- The limits of the core language, and the first offence against them in written order (this project's own).
-use Rattle.std.specs.Prelude.{ℕ, suc, ◌+◌, ◌*◌, nat_lt, ◌||◌, cond, ◌==◌, List, [], ◌∷◌, ◌++◌, length, Result, Ok, Err}
+use Rattle.std.specs.Prelude.{ℕ, suc, ◌+◌, ◌*◌, ◌≤◌, max, nat_lt, ◌||◌, cond, ◌==◌, List, [], ◌∷◌, ◌++◌, length, Result, Ok, Err}
 use Rattle.tb_prim.specs.declared.place.Place.{Place}
 use Rattle.tb_core.specs.declared.limits.CoreRefusal.{CoreRefusal}
+use Rattle.tb_core.specs.declared.limits.Totals.{Totals}
 use Rattle.tb_core.specs.Tree.{Tree, Node, Form, Quote, Local, Global, Lambda, If, SetLocal, SetGlobal, DefGlobal, Let, Letrec, Seq, Call, PrimUse, Apply, Trees, none, more, count, LambdaTree, ProgramTree, parameters}
 use Rattle.tb_core.specs.Width.{nodes}
 
@@ -80,22 +81,29 @@ abbrev pub program_measures : ProgramTree → List Measure
 program_measures p = forms_measures (lambdas_measures p.lambdas 0) p.forms
 
 -- a measure against its limit. A width counts also by its square, which is added to those before it: the answer
--- is the sum of the squared widths so far, or the offence
-unfoldable pub judged : ℕ → Measure → Result ℕ CoreRefusal
-judged squares (Operands p n) = cond (nat_lt 12 n) (Err (CoreRefusal.TooManyArgs p)) (Ok squares)
-judged squares (Depth p n) = cond (nat_lt 1000 n) (Err (CoreRefusal.TooDeep p)) (Ok squares)
-judged squares (Width p n) =
-    cond (nat_lt 1000 n || nat_lt 1048576 (squares + n * n)) (Err (CoreRefusal.TooWide p)) (Ok (squares + n * n))
+-- is the totals of the widths so far, or the offence
+unfoldable pub judged : Totals → Measure → Result Totals CoreRefusal
+judged t (Operands p n) = cond (nat_lt 12 n) (Err (CoreRefusal.TooManyArgs p)) (Ok t)
+judged t (Depth p n) = cond (nat_lt 1000 n) (Err (CoreRefusal.TooDeep p)) (Ok t)
+judged t (Width p n) =
+    cond (nat_lt 1000 n || nat_lt 1048576 (t.squares + n * n)) (Err (CoreRefusal.TooWide p)) (Ok (record { widest = max t.widest n; squares = t.squares + n * n }))
 
-abbrev pub judged_after : Result ℕ CoreRefusal → Measure → Result ℕ CoreRefusal
-judged_after (Ok squares) m = judged squares m
+abbrev pub judged_after : Result Totals CoreRefusal → Measure → Result Totals CoreRefusal
+judged_after (Ok t) m = judged t m
 judged_after (Err e) m = Err e
 
--- the first offence of some measures, or the sum of the squared widths where there is none, after what is given
-unfoldable pub judge : Result ℕ CoreRefusal → List Measure → Result ℕ CoreRefusal
+-- the first offence of some measures, or the totals of the widths where there is none, after what is given
+unfoldable pub judge : Result Totals CoreRefusal → List Measure → Result Totals CoreRefusal
 judge r [] = r
 judge r (m ∷ ms) = judge (judged_after r m) ms
 
--- the first offence of a program, or the sum of its squared widths
-abbrev pub judge_program : ProgramTree → Result ℕ CoreRefusal
-judge_program p = judge (Ok 0) (program_measures p)
+abbrev pub no_widths : Totals
+no_widths = record { widest = 0; squares = 0 }
+
+-- totals within the limits
+abbrev pub IsSmall : Totals → Type 0
+IsSmall t = (t.squares ≤ 1048576) × (t.widest ≤ 1000)
+
+-- the first offence of a program, or the totals of its widths
+abbrev pub judge_program : ProgramTree → Result Totals CoreRefusal
+judge_program p = judge (Ok no_widths) (program_measures p)

@@ -1,5 +1,5 @@
 ghost use Rattle.std.specs.Prelude.{◌≡◌, ◌+◌, ◌≤◌, ◌<◌, ◌*◌, ◌^◌, length, map, drop, Ok, Err, IfOk, OnOk, IsOk, MatchOption, MatchResult};
-ghost use Rattle.tb_core.specs.Limits.{Operands, Depth, Width, measures, measures_all, measures_of_lambdas, lambdas_measures, call_measures, form_measures, forms_measures, judged, judge, judge_program};
+ghost use Rattle.tb_core.specs.Limits.{Operands, Depth, Width, measures, measures_all, measures_of_lambdas, lambdas_measures, call_measures, form_measures, forms_measures, judged, judge, judge_program, no_widths, IsSmall};
 ghost use Rattle.tb_core.specs.Width as widths;
 ghost use Rattle.tb_core.specs.View.{view, view_core, trees, view_lambda, view_program};
 
@@ -27,6 +27,13 @@ pub enum CoreRefusal {
     TooManyArgs(Place),
     /// A body or form is wider than 1,000, or brings the sum of the squared widths past 1,048,576.
     TooWide(Place),
+}
+
+/// The widths of some bodies and forms: the largest, and the sum of the squares.
+#[derive(Clone, Copy, Debug)]
+pub struct Totals {
+    pub widest: usize,
+    pub squares: usize,
 }
 
 /// What is left of so many nodes after those of the expression outside inner lambdas, or `None` where they are
@@ -83,38 +90,43 @@ fn nodes_left_of_all(mut left: usize, exprs: &[Expr]) -> Option<usize>
 
 /// The depth of a node against its limit.
 #[tactic(auto, unfolding(crate::specs::Limits::judged))]
-fn check_depth(squares: usize, place: Place, depth: u32) -> Result<usize, CoreRefusal>
-    ensures value { result ≡ judged squares (Depth place depth) }
+fn check_depth(totals: Totals, place: Place, depth: u32) -> Result<Totals, CoreRefusal>
+    ensures value { result ≡ judged totals (Depth place depth) }
     ensures depth { OnOk result (depth ≤ 1000) }
-    ensures small { IfOk result (λ sum. sum ≡ squares) }
+    ensures small { IfOk result (λ after. after ≡ totals) }
 {
     if depth > MAX_DEPTH {
         Err(CoreRefusal::TooDeep(place))
     } else {
-        Ok(squares)
+        Ok(totals)
     }
 }
 
 /// A count of operands or parameters against its limit.
 #[tactic(auto, unfolding(crate::specs::Limits::judged))]
-fn check_operands(squares: usize, place: Place, count: usize) -> Result<usize, CoreRefusal>
-    ensures value { result ≡ judged squares (Operands place count) }
+fn check_operands(totals: Totals, place: Place, count: usize) -> Result<Totals, CoreRefusal>
+    ensures value { result ≡ judged totals (Operands place count) }
     ensures count { OnOk result (count ≤ 12) }
-    ensures small { IfOk result (λ sum. sum ≡ squares) }
+    ensures small { IfOk result (λ after. after ≡ totals) }
 {
     if count > MAX_OPERANDS {
         Err(CoreRefusal::TooManyArgs(place))
     } else {
-        Ok(squares)
+        Ok(totals)
     }
 }
 
 /// The width of a body or form, from the variables in scope at its start, against both limits.
 #[tactic(auto, unfolding(crate::specs::Limits::judged))]
-fn check_width(squares: usize, place: Place, scope: u128, body: &Expr) -> Result<usize, CoreRefusal>
-    requires { squares ≤ 1048576 }
-    ensures value { result ≡ judged squares (Width place (scope + widths.nodes (view body.now))) }
-    ensures small { IfOk result (λ sum. sum ≤ 1048576) }
+fn check_width(
+    totals: Totals,
+    place: Place,
+    scope: u128,
+    body: &Expr,
+) -> Result<Totals, CoreRefusal>
+    requires { IsSmall totals }
+    ensures value { result ≡ judged totals (Width place (scope + widths.nodes (view body.now))) }
+    ensures small { IfOk result (λ after. IsSmall after) }
 {
     if scope > MAX_WIDTH as u128 {
         return Err(CoreRefusal::TooWide(place));
@@ -124,11 +136,14 @@ fn check_width(squares: usize, place: Place, scope: u128, body: &Expr) -> Result
         None => Err(CoreRefusal::TooWide(place)),
         Some(rest) => {
             let width = MAX_WIDTH - rest;
-            let squares = squares + width * width;
+            let squares = totals.squares + width * width;
             if squares > MAX_SQUARES {
                 Err(CoreRefusal::TooWide(place))
             } else {
-                Ok(squares)
+                Ok(Totals {
+                    widest: totals.widest.max(width),
+                    squares,
+                })
             }
         }
     }
@@ -142,7 +157,7 @@ fn after(lambdas: &[Lambda], index: usize) -> &[Lambda]
     &lambdas[index + 1..]
 }
 
-/// The first offence of an expression, or the sum of the squared widths after it. The number of the first of
+/// The first offence of an expression, or the totals of the widths after it. The number of the first of
 /// the lambda expressions is `first`, and those in the expression are among them. Goes no deeper than 1,001
 /// nodes.
 #[cycle(check)]
@@ -152,96 +167,80 @@ fn check_expr(
     first: usize,
     scope: u128,
     depth: u32,
-    squares: usize,
+    totals: Totals,
     expr: &Expr,
-) -> Result<usize, CoreRefusal>
+) -> Result<Totals, CoreRefusal>
     requires depth { depth ≤ 1001 }
     requires scope { scope ≤ depth * 2 ^ 65 }
-    requires small { squares ≤ 1048576 }
-    ensures value { result ≡ judge (Ok squares) (measures (lambdas_measures (map view_lambda lambdas.now) first) scope depth (view expr.now)) }
-    ensures small { IfOk result (λ sum. sum ≤ 1048576) }
+    requires small { IsSmall totals }
+    ensures value { result ≡ judge (Ok totals) (measures (lambdas_measures (map view_lambda lambdas.now) first) scope depth (view expr.now)) }
+    ensures small { IfOk result (λ after. IsSmall after) }
 {
     match &expr.core {
-        Core::Quote(_) | Core::Local(_) | Core::Global(_) => check_depth(
-            squares, expr.place, depth,
-        ),
-        Core::Lambda(number) => check_lambda(lambdas, first, scope, depth, squares, *number),
+        Core::Quote(_) | Core::Local(_) | Core::Global(_) => check_depth(totals, expr.place, depth),
+        Core::Lambda(number) => check_lambda(lambdas, first, scope, depth, totals, *number),
         Core::If(test, then, other) => {
-            let squares = check_depth(squares, expr.place, depth)?;
-            let squares = check_expr(lambdas, first, scope, depth + 1, squares, test.get())?;
-            let squares = check_expr(lambdas, first, scope, depth + 1, squares, then.get())?;
-            check_expr(lambdas, first, scope, depth + 1, squares, other.get())
+            let totals = check_depth(totals, expr.place, depth)?;
+            let totals = check_expr(lambdas, first, scope, depth + 1, totals, test.get())?;
+            let totals = check_expr(lambdas, first, scope, depth + 1, totals, then.get())?;
+            check_expr(lambdas, first, scope, depth + 1, totals, other.get())
         }
         Core::SetLocal(_, value) => {
-            let squares = check_depth(squares, expr.place, depth)?;
-            check_expr(lambdas, first, scope, depth + 1, squares, value.get())
+            let totals = check_depth(totals, expr.place, depth)?;
+            check_expr(lambdas, first, scope, depth + 1, totals, value.get())
         }
         Core::SetGlobal(_, value) => {
-            let squares = check_depth(squares, expr.place, depth)?;
-            check_expr(lambdas, first, scope, depth + 1, squares, value.get())
+            let totals = check_depth(totals, expr.place, depth)?;
+            check_expr(lambdas, first, scope, depth + 1, totals, value.get())
         }
         Core::DefGlobal(_, value) => {
-            let squares = check_depth(squares, expr.place, depth)?;
-            check_expr(lambdas, first, scope, depth + 1, squares, value.get())
+            let totals = check_depth(totals, expr.place, depth)?;
+            check_expr(lambdas, first, scope, depth + 1, totals, value.get())
         }
         Core::Let(variables, values, body) => {
-            let squares = check_depth(squares, expr.place, depth)?;
-            let squares = check_exprs(
-                lambdas,
-                first,
-                scope,
-                depth + 1,
-                squares,
-                values.as_slice(),
-            )?;
+            let totals = check_depth(totals, expr.place, depth)?;
+            let totals = check_exprs(lambdas, first, scope, depth + 1, totals, values.as_slice())?;
             let inside = scope + variables.as_slice().len() as u128;
-            check_expr(lambdas, first, inside, depth + 1, squares, body.get())
+            check_expr(lambdas, first, inside, depth + 1, totals, body.get())
         }
         Core::Letrec(variables, numbers, body) => {
-            let squares = check_depth(squares, expr.place, depth)?;
+            let totals = check_depth(totals, expr.place, depth)?;
             let inside = scope + variables.as_slice().len() as u128;
-            let squares = check_lambdas(
-                lambdas,
-                first,
-                inside,
-                depth,
-                squares,
-                numbers.as_slice(),
-            )?;
-            check_expr(lambdas, first, inside, depth + 1, squares, body.get())
+            let totals = check_lambdas(lambdas, first, inside, depth, totals, numbers.as_slice())?;
+            check_expr(lambdas, first, inside, depth + 1, totals, body.get())
         }
         Core::Seq(exprs) => {
-            let squares = check_depth(squares, expr.place, depth)?;
-            check_exprs(lambdas, first, scope, depth + 1, squares, exprs.as_slice())
+            let totals = check_depth(totals, expr.place, depth)?;
+            check_exprs(lambdas, first, scope, depth + 1, totals, exprs.as_slice())
         }
         Core::Call(operator, operands) => {
-            let squares = check_operands(squares, expr.place, operands.as_slice().len())?;
-            let squares = check_depth(squares, expr.place, depth)?;
-            let squares = check_expr(lambdas, first, scope, depth + 1, squares, operator.get())?;
+            let totals = check_operands(totals, expr.place, operands.as_slice().len())?;
+            let totals = check_depth(totals, expr.place, depth)?;
+            let totals = check_expr(lambdas, first, scope, depth + 1, totals, operator.get())?;
             check_exprs(
                 lambdas,
                 first,
                 scope,
                 depth + 1,
-                squares,
+                totals,
                 operands.as_slice(),
             )
         }
         Core::Prim(_, operands) => {
-            let squares = check_depth(squares, expr.place, depth)?;
+            let totals = check_depth(totals, expr.place, depth)?;
             check_exprs(
                 lambdas,
                 first,
                 scope,
                 depth + 1,
-                squares,
+                totals,
                 operands.as_slice(),
             )
         }
         Core::Apply(procedure, list) => {
-            let squares = check_depth(squares, expr.place, depth)?;
-            let squares = check_expr(lambdas, first, scope, depth + 1, squares, procedure.get())?;
-            check_expr(lambdas, first, scope, depth + 1, squares, list.get())
+            let totals = check_depth(totals, expr.place, depth)?;
+            let totals = check_expr(lambdas, first, scope, depth + 1, totals, procedure.get())?;
+            check_expr(lambdas, first, scope, depth + 1, totals, list.get())
         }
     }
 }
@@ -254,19 +253,19 @@ fn check_exprs(
     first: usize,
     scope: u128,
     depth: u32,
-    mut squares: usize,
+    mut totals: Totals,
     exprs: &[Expr],
-) -> Result<usize, CoreRefusal>
+) -> Result<Totals, CoreRefusal>
     requires depth { depth ≤ 1001 }
     requires scope { scope ≤ depth * 2 ^ 65 }
-    requires small { squares ≤ 1048576 }
-    ensures value { result ≡ judge (Ok squares) (measures_all (lambdas_measures (map view_lambda lambdas.now) first) scope depth (trees (map view exprs.now))) }
-    ensures small { IfOk result (λ sum. sum ≤ 1048576) }
+    requires small { IsSmall totals }
+    ensures value { result ≡ judge (Ok totals) (measures_all (lambdas_measures (map view_lambda lambdas.now) first) scope depth (trees (map view exprs.now))) }
+    ensures small { IfOk result (λ after. IsSmall after) }
 {
     for expr in exprs {
-        squares = check_expr(lambdas, first, scope, depth, squares, expr)?;
+        totals = check_expr(lambdas, first, scope, depth, totals, expr)?;
     }
-    Ok(squares)
+    Ok(totals)
 }
 
 /// The same of the lambda expressions of a `letrec`, one after another.
@@ -277,19 +276,19 @@ fn check_lambdas(
     first: usize,
     scope: u128,
     depth: u32,
-    mut squares: usize,
+    mut totals: Totals,
     numbers: &[LambdaId],
-) -> Result<usize, CoreRefusal>
+) -> Result<Totals, CoreRefusal>
     requires depth { depth ≤ 1001 }
     requires scope { scope ≤ depth * 2 ^ 65 + 2 ^ 64 }
-    requires small { squares ≤ 1048576 }
-    ensures value { result ≡ judge (Ok squares) (measures_of_lambdas (lambdas_measures (map view_lambda lambdas.now) first) scope depth numbers.now) }
-    ensures small { IfOk result (λ sum. sum ≤ 1048576) }
+    requires small { IsSmall totals }
+    ensures value { result ≡ judge (Ok totals) (measures_of_lambdas (lambdas_measures (map view_lambda lambdas.now) first) scope depth numbers.now) }
+    ensures small { IfOk result (λ after. IsSmall after) }
 {
     for number in numbers {
-        squares = check_lambda(lambdas, first, scope, depth, squares, *number)?;
+        totals = check_lambda(lambdas, first, scope, depth, totals, *number)?;
     }
-    Ok(squares)
+    Ok(totals)
 }
 
 /// The same of a lambda expression by its number, with the variables in scope and the depth of the node where it
@@ -301,44 +300,44 @@ fn check_lambda(
     first: usize,
     scope: u128,
     depth: u32,
-    squares: usize,
+    totals: Totals,
     number: LambdaId,
-) -> Result<usize, CoreRefusal>
+) -> Result<Totals, CoreRefusal>
     requires depth { depth ≤ 1001 }
     requires scope { scope ≤ depth * 2 ^ 65 + 2 ^ 64 }
-    requires small { squares ≤ 1048576 }
-    ensures value { result ≡ judge (Ok squares) (lambdas_measures (map view_lambda lambdas.now) first number scope depth) }
-    ensures small { IfOk result (λ sum. sum ≤ 1048576) }
+    requires small { IsSmall totals }
+    ensures value { result ≡ judge (Ok totals) (lambdas_measures (map view_lambda lambdas.now) first number scope depth) }
+    ensures small { IfOk result (λ after. IsSmall after) }
 {
     let number = number as usize;
     if number < first || lambdas.len() <= number - first {
-        return Ok(squares);
+        return Ok(totals);
     }
     let index = number - first;
     let lambda = &lambdas[index];
     let count = lambda.parameter_count();
-    let squares = check_operands(squares, lambda.place, count)?;
-    let squares = check_depth(squares, lambda.place, depth)?;
+    let totals = check_operands(totals, lambda.place, count)?;
+    let totals = check_depth(totals, lambda.place, depth)?;
     let inside = scope + count as u128;
-    let squares = check_width(squares, lambda.place, inside, &lambda.body)?;
+    let totals = check_width(totals, lambda.place, inside, &lambda.body)?;
     check_expr(
         after(lambdas, index),
         number + 1,
         inside,
         depth + 1,
-        squares,
+        totals,
         &lambda.body,
     )
 }
 
 /// The operands of an expression that is a call, against their limit.
 #[tactic(auto, using(crate::proofs::Judging::judging))]
-fn check_call(squares: usize, expr: &Expr) -> Result<usize, CoreRefusal>
-    ensures value { result ≡ judge (Ok squares) (call_measures expr.now.place (view_core expr.now.core)) }
-    ensures small { IfOk result (λ sum. sum ≡ squares) }
+fn check_call(totals: Totals, expr: &Expr) -> Result<Totals, CoreRefusal>
+    ensures value { result ≡ judge (Ok totals) (call_measures expr.now.place (view_core expr.now.core)) }
+    ensures small { IfOk result (λ after. after ≡ totals) }
 {
     match &expr.core {
-        Core::Call(_, operands) => check_operands(squares, expr.place, operands.as_slice().len()),
+        Core::Call(_, operands) => check_operands(totals, expr.place, operands.as_slice().len()),
         Core::Quote(_)
         | Core::Local(_)
         | Core::Global(_)
@@ -351,32 +350,35 @@ fn check_call(squares: usize, expr: &Expr) -> Result<usize, CoreRefusal>
         | Core::Letrec(..)
         | Core::Seq(_)
         | Core::Prim(..)
-        | Core::Apply(..) => Ok(squares),
+        | Core::Apply(..) => Ok(totals),
     }
 }
 
-/// The first offence of a form, or the sum of the squared widths after it.
+/// The first offence of a form, or the totals of the widths after it.
 #[tactic(auto, using(crate::proofs::Judging::judging))]
-fn check_form(lambdas: &[Lambda], squares: usize, form: &Expr) -> Result<usize, CoreRefusal>
-    requires { squares ≤ 1048576 }
-    ensures value { result ≡ judge (Ok squares) (form_measures (lambdas_measures (map view_lambda lambdas.now) 0) (view form.now)) }
-    ensures small { IfOk result (λ sum. sum ≤ 1048576) }
+fn check_form(lambdas: &[Lambda], totals: Totals, form: &Expr) -> Result<Totals, CoreRefusal>
+    requires { IsSmall totals }
+    ensures value { result ≡ judge (Ok totals) (form_measures (lambdas_measures (map view_lambda lambdas.now) 0) (view form.now)) }
+    ensures small { IfOk result (λ after. IsSmall after) }
 {
-    let squares = check_call(squares, form)?;
-    let squares = check_width(squares, form.place, 0, form)?;
-    check_expr(lambdas, 0, 0, 1, squares, form)
+    let totals = check_call(totals, form)?;
+    let totals = check_width(totals, form.place, 0, form)?;
+    check_expr(lambdas, 0, 0, 1, totals, form)
 }
 
 /// The same of these forms, one after another.
 #[tactic(auto, using(crate::proofs::Judging::judging))]
-fn check_forms(lambdas: &[Lambda], forms: &[Expr]) -> Result<usize, CoreRefusal>
-    ensures value { result ≡ judge (Ok 0) (forms_measures (lambdas_measures (map view_lambda lambdas.now) 0) (trees (map view forms.now))) }
+fn check_forms(lambdas: &[Lambda], forms: &[Expr]) -> Result<Totals, CoreRefusal>
+    ensures value { result ≡ judge (Ok no_widths) (forms_measures (lambdas_measures (map view_lambda lambdas.now) 0) (trees (map view forms.now))) }
 {
-    let mut squares = 0;
+    let mut totals = Totals {
+        widest: 0,
+        squares: 0,
+    };
     for form in forms {
-        squares = check_form(lambdas, squares, form)?;
+        totals = check_form(lambdas, totals, form)?;
     }
-    Ok(squares)
+    Ok(totals)
 }
 
 /// Checks the limits of the core language: nodes nest at most 1,000 deep, a call has at most 12 operands and a
