@@ -12,3 +12,4 @@ pub mod Kept
 pub mod NeverLost
 pub mod Views
 pub mod Judging
+pub mod TotalWidths

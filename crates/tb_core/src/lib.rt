@@ -7,6 +7,7 @@ mod laws;
 mod limits;
 mod program;
 mod rules;
+mod widths;
 
 pub use examples::{
     worked_closures, worked_orders, worked_primitives, worked_programs, worked_spaces,
@@ -21,3 +22,4 @@ pub use laws::{
 pub use limits::{CoreRefusal, check};
 pub use program::{Lambda, LambdaRow, Program};
 pub use rules::{program_keeps_rules, worked_rules};
+pub use widths::{squared_widths, width};

@@ -1,6 +1,7 @@
 ghost use Rattle.std.specs.Prelude.{◌≡◌, ◌+◌, ◌≤◌, ◌<◌, ◌*◌, ◌^◌, length, map, drop, Ok, Err, IfOk, OnOk, IsOk, MatchOption, MatchResult};
 ghost use Rattle.tb_core.specs.Limits.{Operands, Depth, Width, measures, measures_all, measures_of_lambdas, lambdas_measures, call_measures, form_measures, forms_measures, judged, judge, judge_program, no_widths, IsSmall};
 ghost use Rattle.tb_core.specs.Width as widths;
+ghost use Rattle.tb_core.specs.Width.{width_of, square_sum};
 ghost use Rattle.tb_core.specs.View.{view, view_core, trees, view_lambda, view_program};
 
 use super::{Core, Expr, Lambda, LambdaId, Program};
@@ -370,6 +371,7 @@ fn check_form(lambdas: &[Lambda], totals: Totals, form: &Expr) -> Result<Totals,
 #[tactic(auto, using(crate::proofs::Judging::judging))]
 fn check_forms(lambdas: &[Lambda], forms: &[Expr]) -> Result<Totals, CoreRefusal>
     ensures value { result ≡ judge (Ok no_widths) (forms_measures (lambdas_measures (map view_lambda lambdas.now) 0) (trees (map view forms.now))) }
+    ensures small { IfOk result (λ after. IsSmall after) }
 {
     let mut totals = Totals {
         widest: 0,
@@ -381,14 +383,24 @@ fn check_forms(lambdas: &[Lambda], forms: &[Expr]) -> Result<Totals, CoreRefusal
     Ok(totals)
 }
 
+/// The first offence of a program, or the totals of its widths.
+pub(crate) fn program_totals(program: &Program) -> Result<Totals, CoreRefusal>
+    ensures value { result ≡ judge_program (view_program program.now) }
+    ensures small { IfOk result (λ totals. IsSmall totals) }
+{
+    check_forms(program.lambdas.as_slice(), program.forms.as_slice())
+}
+
 /// Checks the limits of the core language: nodes nest at most 1,000 deep, a call has at most 12 operands and a
 /// lambda expression at most 12 parameters, the rest one counted, a body or form is at most 1,000 wide, and the
 /// sum of their squared widths is at most 1,048,576. Otherwise gives the first offence in written order, the
 /// number of operands of a node before its depth, and its depth before its width. Takes no memory, and goes no
 /// deeper than 1,001 nodes.
 pub fn check(program: &Program) -> Result<(), CoreRefusal>
-    ensures { MatchResult result (λ _. IsOk (judge_program (view_program program.now))) (λ refusal. judge_program (view_program program.now) ≡ Err refusal) }
+    ensures first_offence { MatchResult result (λ _. IsOk (judge_program (view_program program.now))) (λ refusal. judge_program (view_program program.now) ≡ Err refusal) }
+    ensures width { OnOk result (width_of (view_program program.now) ≤ 1000) }
+    ensures squares { OnOk result (square_sum (view_program program.now) ≤ 1048576) }
 {
-    check_forms(program.lambdas.as_slice(), program.forms.as_slice())?;
+    program_totals(program)?;
     Ok(())
 }
