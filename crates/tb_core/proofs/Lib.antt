@@ -13,3 +13,4 @@ pub mod NeverLost
 pub mod Views
 pub mod Judging
 pub mod TotalWidths
+pub mod FreeByNumber

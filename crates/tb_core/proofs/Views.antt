@@ -1,5 +1,6 @@
 -- The plain data of an expression, by its form.
 use Rattle.std.proofs.Common.{◌≡◌, refl, sym, ap, ◌∙◌, ℕ, List, [], ◌∷◌, map, length, arith}
+use Rattle.std.proofs.lemmas.Grind.{common_steps}
 use Rattle.tb_prim.specs.declared.constant.Const.{Const}
 use Rattle.tb_prim.specs.declared.primitive.Primitive.{Primitive}
 use Rattle.tb_core.specs.declared.expr.Core.{Core}
@@ -61,3 +62,5 @@ count_view [] = refl
 count_view (e ∷ es) = let h = count_view es in omega arith
 
 pub ruleset viewed = (view_node, view_quote, view_local, view_global, view_lambda, view_if, view_set_local, view_set_global, view_def_global, view_let, view_letrec, view_seq, view_call, view_prim, view_apply, count_view)
+
+pub ruleset viewing = (common_steps, arith, viewed)

@@ -10,5 +10,6 @@ pub mod Events
 pub mod Space
 pub mod Width
 pub mod Limits
+pub mod FirstUses
 pub mod Rules
 pub mod Examples

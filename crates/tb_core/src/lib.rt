@@ -3,6 +3,7 @@
 
 mod examples;
 mod expr;
+mod free;
 mod laws;
 mod limits;
 mod program;
@@ -14,6 +15,7 @@ pub use examples::{
     worked_widths,
 };
 pub use expr::{Core, Expr, ExprRow, LambdaId, LambdaIdRow, Site, VarId, VarRow};
+pub use free::free_vars;
 pub use laws::{
     cut_keeps_listed, cut_to_fewer, emits_in_order, ends_last, free_of_lambda, made_only_grows,
     no_run_is_lost, order_at_nodes, space_counts_once, space_is_within_made, stopped_stays,

@@ -151,7 +151,7 @@ fn check_width(
 }
 
 /// The lambda expressions after the one at an index.
-fn after(lambdas: &[Lambda], index: usize) -> &[Lambda]
+pub(crate) fn after(lambdas: &[Lambda], index: usize) -> &[Lambda]
     requires { index < length lambdas.now }
     ensures { result.now ≡ drop (index + 1) lambdas.now }
 {
