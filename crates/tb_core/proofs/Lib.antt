@@ -14,3 +14,4 @@ pub mod Views
 pub mod Judging
 pub mod TotalWidths
 pub mod FreeByNumber
+pub mod LinesByNumber

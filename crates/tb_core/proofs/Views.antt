@@ -61,6 +61,10 @@ pub count_view : (es : List Expr) → count (trees (map view es)) ≡ length es
 count_view [] = refl
 count_view (e ∷ es) = let h = count_view es in omega arith
 
+-- a `letrec` as a tree
+pub letrec_tree : (e : Expr) (xs ls : List ℕ) (b : Expr) → e.core ≡ code.Letrec xs ls b → view e ≡ Node e.place e.site (Letrec xs ls (view b))
+letrec_tree e xs ls b h = view_node e ∙ ap (Node e.place e.site) (ap view_core h ∙ view_letrec xs ls b)
+
 pub ruleset viewed = (view_node, view_quote, view_local, view_global, view_lambda, view_if, view_set_local, view_set_global, view_def_global, view_let, view_letrec, view_seq, view_call, view_prim, view_apply, count_view)
 
 pub ruleset viewing = (common_steps, arith, viewed)

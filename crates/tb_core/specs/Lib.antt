@@ -11,5 +11,6 @@ pub mod Space
 pub mod Width
 pub mod Limits
 pub mod FirstUses
+pub mod Order
 pub mod Rules
 pub mod Examples

@@ -6,6 +6,7 @@ mod expr;
 mod free;
 mod laws;
 mod limits;
+mod order;
 mod program;
 mod rules;
 mod widths;
@@ -22,6 +23,7 @@ pub use laws::{
     windows_are_finite,
 };
 pub use limits::{CoreRefusal, check};
+pub use order::{IndexRow, Order, OrderLine, operand_order};
 pub use program::{Lambda, LambdaRow, Program};
 pub use rules::{program_keeps_rules, worked_rules};
 pub use widths::{squared_widths, width};
