@@ -10,3 +10,8 @@ pub mod Lines
 pub mod Fits
 pub mod Kept
 pub mod NeverLost
+pub mod Views
+pub mod Judging
+pub mod TotalWidths
+pub mod FreeByNumber
+pub mod LinesByNumber

@@ -9,5 +9,8 @@ pub mod Reference
 pub mod Events
 pub mod Space
 pub mod Width
+pub mod Limits
+pub mod FirstUses
+pub mod Order
 pub mod Rules
 pub mod Examples

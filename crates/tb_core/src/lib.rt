@@ -3,19 +3,27 @@
 
 mod examples;
 mod expr;
+mod free;
 mod laws;
+mod limits;
+mod order;
 mod program;
 mod rules;
+mod widths;
 
 pub use examples::{
     worked_closures, worked_orders, worked_primitives, worked_programs, worked_spaces,
     worked_widths,
 };
 pub use expr::{Core, Expr, ExprRow, LambdaId, LambdaIdRow, Site, VarId, VarRow};
+pub use free::free_vars;
 pub use laws::{
     cut_keeps_listed, cut_to_fewer, emits_in_order, ends_last, free_of_lambda, made_only_grows,
     no_run_is_lost, order_at_nodes, space_counts_once, space_is_within_made, stopped_stays,
     windows_are_finite,
 };
+pub use limits::{CoreRefusal, check};
+pub use order::{IndexRow, Order, OrderLine, operand_order};
 pub use program::{Lambda, LambdaRow, Program};
 pub use rules::{program_keeps_rules, worked_rules};
+pub use widths::{squared_widths, width};

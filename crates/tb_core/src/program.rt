@@ -13,6 +13,23 @@ pub struct Lambda {
     pub body: Expr,
 }
 
+impl Lambda {
+    ghost use Rattle.std.specs.Prelude.{◌≡◌, ◌+◌, length};
+    ghost use Rattle.tb_core.specs.Plain.{view_lambda};
+    ghost use Rattle.tb_core.specs.Tree.{parameters};
+
+    /// How many parameters the lambda expression has, the rest one counted.
+    pub(crate) fn parameter_count(&self) -> usize
+        ensures { result ≡ length (parameters (view_lambda self.now)) }
+    {
+        let formals = self.formals.as_slice().len();
+        match self.rest {
+            None => formals,
+            Some(_) => formals + 1,
+        }
+    }
+}
+
 pub type LambdaRow = Row<Lambda>;
 
 /// A whole program: the names of its globals, its constants, its lambda expressions in the order of their

@@ -1,0 +1,8 @@
+use Rattle.std.proofs.Common.{◌≡◌, ◌++◌, map, drop}
+use Rattle.tb_core.specs.FreeVariables.{targets_all}
+use Rattle.tb_core.specs.View.{view, trees}
+use Rattle.tb_core.proofs.order.+targets.Given as goal
+
+abbrev pub invariant-put_targets_of_all-loop-expr : goal.invariant-put_targets_of_all-loop-expr
+invariant-put_targets_of_all-loop-expr l =
+    l.out.items ++ targets_all (trees (map view (drop l.expr-index l.exprs))) ≡ l.initial.out.items ++ targets_all (trees (map view l.exprs))

@@ -1,0 +1,202 @@
+ghost use Rattle.std.specs.Prelude.{◌≡◌, ◌+◌, ◌<◌, ◌++◌, [], ◌∷◌, length, map, drop, IfOk, OnOk};
+ghost use Rattle.tb_core.specs.FreeVariables as spec;
+ghost use Rattle.tb_core.specs.FreeVariables.{lambdas_free, of_lambdas};
+ghost use Rattle.tb_core.specs.FirstUses.{first_of, free_in_order};
+ghost use Rattle.tb_core.specs.Tree as tree;
+ghost use Rattle.tb_core.specs.View.{view, trees, view_lambda, view_program};
+
+use super::limits::after;
+use super::{Core, Expr, Lambda, LambdaId, Program, VarId, VarRow};
+use std::alloc::Global;
+use tb_prim::{NoMemory, Row};
+
+fn put(out: &mut Vec<VarId>, variable: VarId) -> Result<(), NoMemory>
+    ensures { OnOk result (out.new.items ≡ out.old.items ++ variable ∷ []) }
+{
+    out.push(variable)?;
+    Ok(())
+}
+
+fn is_in(variables: &[VarId], variable: VarId) -> bool
+    ensures { result ≡ spec.is_in variables.now variable }
+{
+    variables.iter().any(|other| *other == variable)
+}
+
+/// Puts those of the second list that are not in the first.
+fn put_without(out: &mut Vec<VarId>, bound: &[VarId], variables: &[VarId]) -> Result<(), NoMemory>
+    ensures { OnOk result (out.new.items ≡ out.old.items ++ spec.without bound.now variables.now) }
+{
+    for variable in variables {
+        if !is_in(bound, *variable) {
+            put(out, *variable)?;
+        }
+    }
+    Ok(())
+}
+
+/// The parameters of a lambda expression, the rest one last.
+fn parameters(alloc: Global, lambda: &Lambda) -> Result<Vec<VarId>, NoMemory>
+    ensures { IfOk result (λ all. all.items ≡ tree.parameters (view_lambda lambda.now)) }
+{
+    let mut all = Vec::from_slice(alloc, lambda.formals.as_slice())?;
+    if let Some(rest) = lambda.rest {
+        all.push(rest)?;
+    }
+    Ok(all)
+}
+
+/// Puts the free variables of an expression, as often as they stand in it, in written order. The number of the
+/// first of the lambda expressions is `first`, and those in the expression are among them.
+#[cycle(free)]
+#[tactic(auto, using(crate::proofs::Views::viewing))]
+fn put_free(
+    alloc: Global,
+    lambdas: &[Lambda],
+    first: usize,
+    out: &mut Vec<VarId>,
+    expr: &Expr,
+) -> Result<(), NoMemory>
+    ensures { OnOk result (out.new.items ≡ out.old.items ++ spec.free (lambdas_free (map view_lambda lambdas.now) first) (view expr.now)) }
+{
+    match &expr.core {
+        Core::Quote(_) | Core::Global(_) => Ok(()),
+        Core::Local(variable) => put(out, *variable),
+        Core::Lambda(number) => put_lambda(alloc, lambdas, first, out, *number),
+        Core::If(test, then, other) => {
+            put_free(alloc, lambdas, first, out, test.get())?;
+            put_free(alloc, lambdas, first, out, then.get())?;
+            put_free(alloc, lambdas, first, out, other.get())
+        }
+        Core::SetLocal(variable, value) => {
+            put(out, *variable)?;
+            put_free(alloc, lambdas, first, out, value.get())
+        }
+        Core::SetGlobal(_, value) => put_free(alloc, lambdas, first, out, value.get()),
+        Core::DefGlobal(_, value) => put_free(alloc, lambdas, first, out, value.get()),
+        Core::Let(variables, values, body) => {
+            put_free_of_all(alloc, lambdas, first, out, values.as_slice())?;
+            put_outer(
+                alloc,
+                lambdas,
+                first,
+                out,
+                variables.as_slice(),
+                &[],
+                body.get(),
+            )
+        }
+        Core::Letrec(variables, numbers, body) => put_outer(
+            alloc,
+            lambdas,
+            first,
+            out,
+            variables.as_slice(),
+            numbers.as_slice(),
+            body.get(),
+        ),
+        Core::Seq(exprs) => put_free_of_all(alloc, lambdas, first, out, exprs.as_slice()),
+        Core::Call(operator, operands) => {
+            put_free(alloc, lambdas, first, out, operator.get())?;
+            put_free_of_all(alloc, lambdas, first, out, operands.as_slice())
+        }
+        Core::Prim(_, operands) => put_free_of_all(alloc, lambdas, first, out, operands.as_slice()),
+        Core::Apply(procedure, list) => {
+            put_free(alloc, lambdas, first, out, procedure.get())?;
+            put_free(alloc, lambdas, first, out, list.get())
+        }
+    }
+}
+
+/// The same of these expressions, one after another.
+#[cycle(free)]
+#[tactic(auto, using(crate::proofs::Views::viewing))]
+fn put_free_of_all(
+    alloc: Global,
+    lambdas: &[Lambda],
+    first: usize,
+    out: &mut Vec<VarId>,
+    exprs: &[Expr],
+) -> Result<(), NoMemory>
+    ensures { OnOk result (out.new.items ≡ out.old.items ++ spec.free_all (lambdas_free (map view_lambda lambdas.now) first) (trees (map view exprs.now))) }
+{
+    for expr in exprs {
+        put_free(alloc, lambdas, first, out, expr)?;
+    }
+    Ok(())
+}
+
+/// The same of some lambda expressions and a body, but those that are bound.
+#[cycle(free)]
+#[tactic(auto, using(crate::proofs::Views::viewing))]
+fn put_outer(
+    alloc: Global,
+    lambdas: &[Lambda],
+    first: usize,
+    out: &mut Vec<VarId>,
+    bound: &[VarId],
+    numbers: &[LambdaId],
+    body: &Expr,
+) -> Result<(), NoMemory>
+    ensures { OnOk result (out.new.items ≡ out.old.items ++ spec.without bound.now (of_lambdas (lambdas_free (map view_lambda lambdas.now) first) numbers.now ++ spec.free (lambdas_free (map view_lambda lambdas.now) first) (view body.now))) }
+{
+    let mut inside = Vec::new(alloc);
+    for number in numbers {
+        put_lambda(alloc, lambdas, first, &mut inside, *number)?;
+    }
+    put_free(alloc, lambdas, first, &mut inside, body)?;
+    put_without(out, bound, inside.as_slice())
+}
+
+/// The same of a lambda expression by its number.
+#[cycle(free)]
+#[tactic(auto, using(crate::proofs::Views::viewing))]
+fn put_lambda(
+    alloc: Global,
+    lambdas: &[Lambda],
+    first: usize,
+    out: &mut Vec<VarId>,
+    number: LambdaId,
+) -> Result<(), NoMemory>
+    ensures { OnOk result (out.new.items ≡ out.old.items ++ lambdas_free (map view_lambda lambdas.now) first number) }
+{
+    let number = number as usize;
+    if number < first || lambdas.len() <= number - first {
+        return Ok(());
+    }
+    let index = number - first;
+    let lambda = &lambdas[index];
+    let bound = parameters(alloc, lambda)?;
+    let mut inside = Vec::new(alloc);
+    put_free(
+        alloc,
+        after(lambdas, index),
+        number + 1,
+        &mut inside,
+        &lambda.body,
+    )?;
+    put_without(out, bound.as_slice(), inside.as_slice())
+}
+
+/// The list with each variable at its first place alone.
+fn first_uses(alloc: Global, variables: &[VarId]) -> Result<Vec<VarId>, NoMemory>
+    ensures { IfOk result (λ out. out.items ≡ first_of [] variables.now) }
+{
+    let mut out = Vec::new(alloc);
+    for variable in variables {
+        if !is_in(out.as_slice(), *variable) {
+            put(&mut out, *variable)?;
+        }
+    }
+    Ok(out)
+}
+
+/// The free variables of a lambda expression of the program, each once, in the order of their first use.
+pub fn free_vars(alloc: Global, program: &Program, lambda: LambdaId) -> Result<VarRow, NoMemory>
+    requires { lambda < length program.now.lambdas }
+    ensures { IfOk result (λ row. row ≡ free_in_order (view_program program.now) lambda) }
+{
+    let mut all = Vec::new(alloc);
+    put_lambda(alloc, program.lambdas.as_slice(), 0, &mut all, lambda)?;
+    Ok(Row::from_vec(first_uses(alloc, all.as_slice())?))
+}
