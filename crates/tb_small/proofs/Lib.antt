@@ -16,3 +16,4 @@ pub mod PlacesFound
 pub mod FinalEvents
 pub mod MacProgram
 pub mod WholeProgram
+pub mod ScopeLaws

@@ -2,3 +2,5 @@ pub mod Generate
 pub mod Meaning
 pub mod Built
 pub mod Compiled
+pub mod Ranges
+pub mod Scopes

@@ -1,10 +1,14 @@
-//! Code of the small forms, as definitions, and the theorem that it keeps the reference machine: constants,
-//! variables, `let`, `if`, sequences, `write-char`, and `+`, `-`, `=` and `<` of two operands.
+//! Code of the small forms, and the theorem that it keeps the reference machine: constants, variables, `let`,
+//! `if`, sequences, `write-char`, and `+`, `-`, `=` and `<` of two operands.
 #![tactic(auto)]
 
 ghost use Rattle.tb_core.specs.Tree.{Trees};
 ghost use Rattle.tb_small.specs.Compiled.{Compiles, IsSmall};
 ghost use Rattle.tb_small.specs.Generate.{program_of, program_code, program_places};
+
+mod generator;
+mod scope;
+mod size;
 
 /// In every heap and for every input the code of small forms emits what the reference machine emits on them,
 /// and it comes to its end or fails after at most as many steps as it has instructions.
