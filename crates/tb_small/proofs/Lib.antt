@@ -17,3 +17,10 @@ pub mod FinalEvents
 pub mod MacProgram
 pub mod WholeProgram
 pub mod ScopeLaws
+pub mod FormsHaveCode
+pub mod CodeBounds
+pub mod CodeFields
+pub mod CodePlaces
+pub mod CodeRuleLaws
+pub mod Results
+pub mod GeneratorLaws

@@ -4,3 +4,5 @@ pub mod Built
 pub mod Compiled
 pub mod Ranges
 pub mod Scopes
+pub mod HasCode
+pub mod CodeRules

@@ -11,7 +11,7 @@ use tb_macm::{Instr, PlaceEntry};
 use tb_prim::{Const, NoMemory, Place, Prim};
 
 /// The number of the register RESULT.
-const RESULT: u8 = 16;
+pub const RESULT: u8 = 16;
 
 /// Code that is being made: the instructions so far, and the places of those that can fail.
 #[derive(Drop)]
@@ -21,7 +21,7 @@ pub struct Output {
 }
 
 /// The 32 bits that stand for the constant in an instruction.
-fn bits(constant: Const) -> u32
+pub fn bits(constant: Const) -> u32
     requires { HasBits constant }
     ensures { result ≡ generate.bits_of constant }
 {
@@ -65,7 +65,7 @@ fn binary_number(primitive: Prim) -> u32
 }
 
 /// Whether the operand is a constant or a variable.
-fn is_simple(expr: &Expr) -> bool
+pub fn is_simple(expr: &Expr) -> bool
     ensures { result ≡ is_simple_in generate.never (view expr.now) }
 {
     match &expr.core {
@@ -75,7 +75,7 @@ fn is_simple(expr: &Expr) -> bool
     }
 }
 
-fn put(out: &mut Output, instr: Instr) -> Result<(), NoMemory>
+pub fn put(out: &mut Output, instr: Instr) -> Result<(), NoMemory>
     ensures code { OnOk result (out.new.code.items ≡ out.old.code.items ++ instr ∷ []) }
     ensures long { OnOk result (length out.new.code.items ≡ length out.old.code.items + 1) }
     ensures places { out.new.places.items ≡ out.old.places.items }
@@ -128,7 +128,7 @@ fn put_binary(out: &mut Output, primitive: Prim, slot: u32, place: Place) -> Res
 }
 
 /// Puts the jump that is taken where RESULT is false, past the code of the expression and the jump behind it.
-fn put_branch(out: &mut Output, consequent: &Expr) -> Result<(), NoMemory>
+pub fn put_branch(out: &mut Output, consequent: &Expr) -> Result<(), NoMemory>
     requires { length out.old.code.items + (1 + (generate.size (view consequent.now) + 1)) < 2 ^ 32 }
     ensures code { OnOk result (out.new.code.items ≡ out.old.code.items ++ Brf generate.result (length out.old.code.items + (1 + (generate.size (view consequent.now) + 1))) ∷ []) }
     ensures long { OnOk result (length out.new.code.items ≡ length out.old.code.items + 1) }
@@ -139,7 +139,7 @@ fn put_branch(out: &mut Output, consequent: &Expr) -> Result<(), NoMemory>
 }
 
 /// Puts the jump past the code of the expression.
-fn put_jump(out: &mut Output, alternative: &Expr) -> Result<(), NoMemory>
+pub fn put_jump(out: &mut Output, alternative: &Expr) -> Result<(), NoMemory>
     requires { length out.old.code.items + (1 + generate.size (view alternative.now)) < 2 ^ 32 }
     ensures code { OnOk result (out.new.code.items ≡ out.old.code.items ++ Jump (length out.old.code.items + (1 + generate.size (view alternative.now))) ∷ []) }
     ensures long { OnOk result (length out.new.code.items ≡ length out.old.code.items + 1) }
@@ -150,7 +150,7 @@ fn put_jump(out: &mut Output, alternative: &Expr) -> Result<(), NoMemory>
 }
 
 /// Puts the use of a primitive, whose operands stand in slots from the first on.
-fn put_use(
+pub fn put_use(
     out: &mut Output,
     primitive: Prim,
     operands: usize,

@@ -6,9 +6,13 @@ ghost use Rattle.tb_core.specs.Tree.{Trees};
 ghost use Rattle.tb_small.specs.Compiled.{Compiles, IsSmall};
 ghost use Rattle.tb_small.specs.Generate.{program_of, program_code, program_places};
 
+mod forms;
 mod generator;
+mod program;
 mod scope;
 mod size;
+
+pub use program::generate;
 
 /// In every heap and for every input the code of small forms emits what the reference machine emits on them,
 /// and it comes to its end or fails after at most as many steps as it has instructions.

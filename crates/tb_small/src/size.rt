@@ -1,6 +1,7 @@
-ghost use Rattle.std.specs.Prelude.{◌≡◌, ◌<◌, ◌^◌, map};
+ghost use Rattle.std.specs.Prelude.{◌≡◌, ◌+◌, ◌<◌, ◌^◌, map};
 ghost use Rattle.tb_core.specs.Tree.{count};
 ghost use Rattle.tb_core.specs.View.{view, trees};
+ghost use Rattle.tb_core.specs.Width.{nodes, nodes_all};
 ghost use Rattle.tb_small.specs.Generate as generate;
 
 use tb_core::{Core, Expr};
@@ -11,6 +12,14 @@ pub fn operand_count(operands: &[Expr]) -> usize
     ensures { result ≡ count (trees (map view operands.now)) }
 {
     operands.len()
+}
+
+/// The first slot behind those of the operands, of which the first has slot `depth`.
+pub fn slot_behind(depth: u32, operands: &[Expr]) -> u32
+    requires { depth + (1 + nodes_all (trees (map view operands.now))) < 2 ^ 32 }
+    ensures { result ≡ depth + count (trees (map view operands.now)) }
+{
+    depth + operands.len() as u32
 }
 
 /// How many instructions the use of a primitive with so many operands has.
@@ -67,6 +76,48 @@ fn operand_size(exprs: &[Expr]) -> u32
     let mut total = 0;
     for expr in exprs {
         total += size(expr) + 1;
+    }
+    total
+}
+
+/// How many nodes the expression has outside inner lambdas.
+#[cycle(nodes)]
+fn node_count(expr: &Expr) -> u32
+    requires { nodes (view expr.now) < 2 ^ 32 }
+    ensures { result ≡ nodes (view expr.now) }
+{
+    match &expr.core {
+        Core::Quote(_) | Core::Local(_) | Core::Global(_) | Core::Lambda(_) => 1,
+        Core::If(test, consequent, alternative) => {
+            1 + node_count(test.get())
+                + node_count(consequent.get())
+                + node_count(alternative.get())
+        }
+        Core::SetLocal(_, value) => 1 + node_count(value.get()),
+        Core::SetGlobal(_, value) => 1 + node_count(value.get()),
+        Core::DefGlobal(_, value) => 1 + node_count(value.get()),
+        Core::Let(_, values, body) => 1 + all_nodes(values.as_slice()) + node_count(body.get()),
+        Core::Letrec(_, lambdas, body) => {
+            1 + lambdas.as_slice().len() as u32 + node_count(body.get())
+        }
+        Core::Seq(exprs) => 1 + all_nodes(exprs.as_slice()),
+        Core::Call(operator, operands) => {
+            1 + node_count(operator.get()) + all_nodes(operands.as_slice())
+        }
+        Core::Prim(_, operands) => 1 + all_nodes(operands.as_slice()),
+        Core::Apply(procedure, list) => 1 + node_count(procedure.get()) + node_count(list.get()),
+    }
+}
+
+/// How many nodes the expressions have.
+#[cycle(nodes)]
+pub fn all_nodes(exprs: &[Expr]) -> u32
+    requires { nodes_all (trees (map view exprs.now)) < 2 ^ 32 }
+    ensures { result ≡ nodes_all (trees (map view exprs.now)) }
+{
+    let mut total = 0;
+    for expr in exprs {
+        total += node_count(expr);
     }
     total
 }
