@@ -1,8 +1,8 @@
 -- How long the code of expressions is, by their nodes and by the widths of the program.
-use Rattle.std.proofs.Common.{◌≡◌, ℕ, zero, suc, ◌+◌, ◌*◌, ◌≤◌, List, [], ◌∷◌, ◌++◌, length, refl, arith, length-append}
+use Rattle.std.proofs.Common.{◌≡◌, ℕ, zero, suc, ◌+◌, ◌*◌, ◌≤◌, List, [], ◌∷◌, ◌++◌, arith}
 use Rattle.tb_core.specs.Tree.{Tree, Node, Form, Quote, Local, Global, Lambda, If, SetLocal, SetGlobal, DefGlobal, Let, Letrec, Seq, Call, PrimUse, Apply, Trees, none, more, count}
 use Rattle.tb_core.specs.Width.{nodes, nodes_form, nodes_all, widths, form_widths, squares, square_sum}
-use Rattle.tb_small.specs.Generate.{program_of, program_code, size, form_size, all_size, operand_size, prim_size}
+use Rattle.tb_small.specs.Generate.{program_of, size, form_size, all_size, operand_size, prim_size}
 
 use_is_short : (n : ℕ) → prim_size n ≤ 3
 use_is_short zero = omega arith

@@ -1,17 +1,17 @@
 -- The fields of the instructions of an expression are in their ranges.
-use Rattle.std.proofs.Common.{◌≡◌, ℕ, suc, ◌+◌, ◌≤◌, ◌<◌, ◌==◌, Bool, true, false, cond, List, [], ◌∷◌, ◌++◌, length, refl, sym, ap, subst, arith}
+use Rattle.std.proofs.Common.{◌≡◌, ℕ, suc, ◌+◌, ◌≤◌, ◌<◌, ◌==◌, Bool, true, false, cond, List, [], ◌∷◌, ◌++◌, length, refl, sym, subst, arith}
 use Rattle.std.specs.Prelude.{All, IsSome, Some}
 use Rattle.std.proofs.lemmas.List.Elements.{All-nil, All-cons, All-append}
 use Rattle.tb_prim.specs.declared.primitive.Primitive.{Primitive}
 use Rattle.tb_prim.specs.declared.primitive.Primitive.TheVariants.{WriteChar, Add, Sub, NumEq, Less}
-use Rattle.tb_core.specs.Tree.{Tree, Node, If, Let, PrimUse, Trees, none, more, count}
+use Rattle.tb_core.specs.Tree.{Tree, Node, Trees, none, more, count}
 use Rattle.tb_core.specs.OperandOrder.{is_simple}
 use Rattle.tb_core.specs.Reference.{Context}
 use Rattle.tb_core.specs.Width.{nodes, nodes_all}
 use Rattle.tb_macm.specs.declared.code.Instr.{Instr}
 use Rattle.tb_macm.specs.declared.code.Instr.TheVariants.{Load, Store, Jump, Brf, Imm, Op1, Op2}
 use Rattle.tb_macm.specs.Rules.{InstrOk, arity_at}
-use Rattle.tb_small.specs.Generate.{Slots, no_slots, in_slot, slot_of, slots_from, never, same, code, codes, chosen, prim_code, number_1, number_2, size, form_size, all_size, operand_size, chosen_size, prim_size, result}
+use Rattle.tb_small.specs.Generate.{Slots, no_slots, in_slot, slot_of, slots_from, never, same, code, codes, chosen, prim_code, number_2, size, all_size, operand_size, chosen_size, result}
 use Rattle.tb_small.specs.Built.{IsBinary, Built, BuiltAll, built_quote, built_local, built_if, built_let, built_seq, built_put, built_binary, built_none, built_more}
 use Rattle.tb_small.proofs.CodeBounds.{count_by_nodes}
 use Rattle.tb_small.proofs.Sizes.{operand_split}
@@ -64,7 +64,7 @@ module _ (n : ℕ) where
       let fewer : count es ≤ nodes_all es = count_by_nodes es in
       chosen_one (same simple (is_simple never e)) at (size e + 1 + chosen_size simple es) (chosen_size simple es) _ _
       (λ in'. All-append (InstrOk n) _ _ (u r d at b (omega arith) (omega arith))
-          (All-cons (InstrOk n) (Store result m) _ (omega arith, omega arith) (us simple r d (suc m) (at + (size e + 1)) b (omega arith) (omega arith) (omega arith))))
+      (All-cons (InstrOk n) (Store result m) _ (omega arith, omega arith) (us simple r d (suc m) (at + (size e + 1)) b (omega arith) (omega arith) (omega arith))))
       (λ in'. us simple r d (suc m) at b (omega arith) (omega arith) in')
       l
 

@@ -1,18 +1,18 @@
 -- The places of an expression are those of its instructions that can fail.
-use Rattle.std.proofs.Common.{◌≡◌, ℕ, zero, suc, ◌+◌, ◌-◌, Bool, true, false, cond, List, [], ◌∷◌, ◌++◌, map, length, refl, sym, ap, ◌∙◌, subst, arith}
+use Rattle.std.proofs.Common.{◌≡◌, ℕ, suc, ◌+◌, Bool, true, false, cond, List, [], ◌∷◌, ◌++◌, map, length, refl, sym, ap, ◌∙◌, arith}
 use Rattle.tb_prim.specs.declared.place.Place.{Place}
 use Rattle.tb_prim.specs.declared.primitive.Primitive.{Primitive}
 use Rattle.tb_prim.specs.declared.primitive.Primitive.TheVariants.{WriteChar, Add, Sub, NumEq, Less}
-use Rattle.tb_core.specs.Tree.{Tree, Node, If, Let, PrimUse, Trees, none, more, count}
+use Rattle.tb_core.specs.Tree.{Tree, Node, If, Trees, none, more, count}
 use Rattle.tb_core.specs.OperandOrder.{is_simple}
 use Rattle.tb_core.specs.Reference.{Context}
 use Rattle.tb_macm.specs.declared.code.Instr.{Instr}
-use Rattle.tb_macm.specs.declared.code.Instr.TheVariants.{Load, Store, Jump, Brf, Op1, Op2}
+use Rattle.tb_macm.specs.declared.code.Instr.TheVariants.{Store, Jump, Brf}
 use Rattle.tb_macm.specs.declared.code.PlaceEntry.{PlaceEntry}
 use Rattle.tb_macm.specs.Rules.{can_fail, instr_can_fail, failing_from}
-use Rattle.tb_small.specs.Generate.{Slots, slots_from, never, same, code, codes, chosen, prim_code, number_2, places, all_places, chosen_places, size, form_size, all_size, operand_size, chosen_size, prim_size, result}
+use Rattle.tb_small.specs.Generate.{Slots, slots_from, never, same, code, codes, chosen, prim_code, number_2, places, all_places, chosen_places, size, form_size, operand_size, chosen_size, result}
 use Rattle.tb_small.specs.Built.{IsBinary, Built, BuiltAll, built_quote, built_local, built_if, built_let, built_seq, built_put, built_binary, built_none, built_more}
-use Rattle.tb_small.proofs.Sizes.{HasSize, HaveSizes, operand_split, length_code, length_codes, length_chosen}
+use Rattle.tb_small.proofs.Sizes.{HasSize, HaveSizes, operand_split, length_code, length_chosen}
 
 -- the numbers of instructions in a list of places
 abbrev numbers_of : List PlaceEntry → List ℕ

@@ -1,12 +1,9 @@
 -- The code of a program of the small forms keeps the rules of code, and its length is bounded.
-use Rattle.std.proofs.Common.{◌≡◌, ℕ, ◌+◌, ◌*◌, ◌≤◌, List, [], ◌∷◌, ◌++◌, length, refl, sym, ap, ◌∙◌, subst, append-nil, length-append, arith}
-use Rattle.std.specs.Prelude.{All}
+use Rattle.std.proofs.Common.{◌≡◌, ℕ, ◌+◌, ◌*◌, ◌≤◌, [], ◌∷◌, ◌++◌, length, refl, subst, append-nil, length-append, arith}
 use Rattle.std.proofs.lemmas.List.Elements.{All-nil, All-cons, All-append}
 use Rattle.tb_core.specs.Tree.{Trees}
 use Rattle.tb_core.specs.Width.{nodes_all, square_sum}
-use Rattle.tb_macm.specs.declared.code.Instr.{Instr}
 use Rattle.tb_macm.specs.declared.code.Instr.TheVariants.{Save, End}
-use Rattle.tb_macm.specs.declared.code.PlaceEntry.{PlaceEntry}
 use Rattle.tb_macm.specs.Rules.{InstrOk}
 use Rattle.tb_small.specs.CodeRules.{CodeKeepsRules}
 use Rattle.tb_small.specs.Compiled.{IsSmall}

@@ -6,3 +6,4 @@ pub mod Ranges
 pub mod Scopes
 pub mod HasCode
 pub mod CodeRules
+pub mod Parts

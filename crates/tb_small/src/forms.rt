@@ -3,12 +3,11 @@ ghost use Rattle.tb_core.specs.Tree.{If, Let, PrimUse, count};
 ghost use Rattle.tb_core.specs.View.{view, trees};
 ghost use Rattle.tb_core.specs.Width.{nodes, nodes_all, nodes_form};
 ghost use Rattle.tb_small.specs.Generate as generate;
-ghost use Rattle.tb_small.specs.HasCode.{HasCode, FormHasCode, AllHaveCode, operands_code, operands_places, stored, chosen_code, chosen_length, places_if_chosen, if_places, let_places};
+ghost use Rattle.tb_small.specs.HasCode.{HasCode, FormHasCode, AllHaveCode};
+ghost use Rattle.tb_small.specs.Parts.{operands_code, operands_places, stored, chosen_code, chosen_length, places_if_chosen, if_places, let_places};
 ghost use Rattle.tb_small.specs.Scopes.{slots_in};
 
-use super::generator::{
-    Output, RESULT, bits, is_simple, put, put_branch, put_jump, put_use,
-};
+use super::generator::{Output, RESULT, bits, is_simple, put, put_branch, put_jump, put_use};
 use super::scope::{Slot, find_slot, inner_scope};
 use super::size::{operand_count, slot_behind};
 use std::alloc::Global;
@@ -219,7 +218,7 @@ fn put_chosen(
     Ok(())
 }
 
-/// Puts the code of an operand that is as simple as asked for, and nothing for another.
+/// Puts the code of the operand if it is simple, or if it is not, as `simple` says, and nothing otherwise.
 #[cycle(forms)]
 fn put_if_chosen(
     alloc: Global,

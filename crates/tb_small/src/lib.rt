@@ -1,5 +1,6 @@
-//! Code of the small forms, and the theorem that it keeps the reference machine: constants, variables, `let`,
-//! `if`, sequences, `write-char`, and `+`, `-`, `=` and `<` of two operands.
+//! Code of the small forms, the generator that makes it, and the theorem that it keeps the reference machine. The
+//! small forms are constants, variables, `let`, `if`, sequences, `write-char`, and `+`, `-`, `=` and `<` of two
+//! operands.
 #![tactic(auto)]
 
 ghost use Rattle.tb_core.specs.Tree.{Trees};

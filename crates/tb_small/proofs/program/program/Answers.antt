@@ -1,4 +1,4 @@
-use Rattle.std.proofs.Common.{◌≡◌, ◌+◌, ◌*◌, ◌≤◌, ◌++◌, [], ◌∷◌, length, map, ap, ◌∙◌, arith}
+use Rattle.std.proofs.Common.{◌≡◌, ◌+◌, ◌*◌, ◌≤◌, length, map, ap, arith}
 use Rattle.tb_core.specs.View.{view, trees}
 use Rattle.tb_core.specs.Width.{nodes_all}
 use Rattle.tb_small.specs.Generate.{all_size}
