@@ -105,7 +105,3 @@ pub chosen_places_next : (simple : Bool) (at : ℕ) (e : Tree) (es : Trees) →
 chosen_places_next simple at e es = places_first (same simple (is_simple never e)) (places at e) at (size e + 1) es simple
 
 pub ruleset choosing = (arith, common_steps, chosen_next, chosen_size_next, chosen_places_next, count_by_nodes)
-
--- code that is put piece by piece
-pub put_next : {A : Type 0} (all o0 o1 xs ys zs : List A) → o0 ++ zs ≡ all → zs ≡ xs ++ ys → o1 ≡ o0 ++ xs → o1 ++ ys ≡ all
-put_next all o0 o1 xs ys zs h e p = ap (λ x. x ++ ys) p ∙ append_assoc o0 xs ys ∙ ap (λ x. o0 ++ x) (sym e) ∙ h
