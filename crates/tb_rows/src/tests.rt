@@ -3,16 +3,6 @@ use std::test::Fail;
 use tb_base::{MemSink, MemSource, MemStore, Store};
 use tb_twobit::twobit;
 
-/// The words of a command, the text of `a.scm`, and what is to come: output, lines and status.
-#[derive(Drop)]
-struct Row<'a> {
-    words: &'a [&'a str],
-    text: &'a [u8],
-    out: &'a [u8],
-    diag: &'a [u8],
-    status: u8,
-}
-
 /// What a call gave.
 #[derive(Drop)]
 struct Outcome {
@@ -39,136 +29,206 @@ fn called(
     Ok(Outcome { out, diag, status })
 }
 
+/// A text, and what its run is to give: output, line and status.
+#[derive(Drop)]
+struct Run<'a> {
+    text: &'a [u8],
+    out: &'a [u8],
+    diag: &'a [u8],
+    status: u8,
+}
+
+/// Runs the text with heap and steps enough, and compares.
+fn check_run(alloc: Global, run: &Run) -> Result<bool, Fail> {
+    let go = ["go", "mac", "a.scm", "4096", "100000"];
+    let outcome = called(alloc, &go, run.text, &[], &[])?;
+    Ok(outcome.status == run.status
+        && outcome.out.held() == run.out
+        && outcome.diag.held() == run.diag)
+}
+
 #[test]
-fn rows(rt: HostRuntime) -> Result<(), Fail> {
-    let go: &[&str] = &["go", "mac", "a.scm", "4096", "100000"];
-    let rows = [
-        Row {
-            words: go,
+fn forms_run(rt: HostRuntime) -> Result<(), Fail> {
+    let runs = [
+        Run {
             text: b"",
             out: b"",
             diag: b"",
             status: 0,
         },
-        Row {
-            words: go,
+        Run {
             text: b"(write-char #\\a)",
             out: b"a",
             diag: b"",
             status: 0,
         },
-        Row {
-            words: go,
+        Run {
             text: b" ( write-char\n#\\space )\t(write-char #\\newline)(write-char #\\))",
             out: b" \n)",
             diag: b"",
             status: 0,
         },
-        Row {
-            words: go,
-            text: b"(car 1)",
-            out: b"",
-            diag: b"refused 115 1:1\n",
-            status: 1,
-        },
-        Row {
-            words: go,
-            text: b"(write-char #\\a) x",
-            out: b"",
-            diag: b"refused 115 1:1\n",
-            status: 1,
-        },
-        Row {
-            words: go,
-            text: b"(write-char#\\a)",
-            out: b"",
-            diag: b"refused 115 1:1\n",
-            status: 1,
-        },
-        Row {
-            words: &["go", "vax", "a.scm", "4096", "1"],
-            text: b"",
-            out: b"",
-            diag: b"",
-            status: 2,
-        },
-        Row {
-            words: &["go", "mac", "a.scm", "1023", "1"],
-            text: b"",
-            out: b"",
-            diag: b"",
-            status: 2,
-        },
-        Row {
-            words: &["go", "mac", "", "4096", "1"],
-            text: b"",
-            out: b"",
-            diag: b"",
-            status: 2,
-        },
-        Row {
-            words: &["go", "mac", "a.scm", "4096", "18446744073709551616"],
-            text: b"",
-            out: b"",
-            diag: b"",
-            status: 2,
-        },
-        Row {
-            words: &["go", "mac", "a.scm", "4096", "18446744073709551615"],
-            text: b"",
-            out: b"",
+        Run {
+            text: b"(let ((a 5)(b 3)) (begin (write-char #\\x) (if #f (write-char #\\y) (write-char #\\n))))",
+            out: b"xn",
             diag: b"",
             status: 0,
         },
-        Row {
-            words: &[],
-            text: b"",
-            out: b"",
-            diag: b"",
-            status: 2,
-        },
-        Row {
-            words: &["go", "mac", "b.scm", "4096", "1"],
-            text: b"",
-            out: b"",
-            diag: b"",
-            status: 3,
-        },
-        // One step for the frame, two for the form and one for the end: three steps are too few.
-        Row {
-            words: &["go", "mac", "a.scm", "1024", "3"],
-            text: b"(write-char #\\a)",
-            out: b"a",
-            diag: b"",
-            status: 8,
-        },
-        Row {
-            words: &["go", "mac", "a.scm", "1024", "4"],
-            text: b"(write-char #\\a)",
-            out: b"a",
+        Run {
+            text: b"(let ((a #\\o)) (begin (let ((a #\\i)) (write-char a)) (write-char a)))",
+            out: b"io",
             diag: b"",
             status: 0,
         },
-        Row {
-            words: &["go", "mac", "a.scm", "1024", "5"],
-            text: b"(write-char #\\a)",
-            out: b"a",
+        // Operands that are not simple are evaluated in written order, and before those that are.
+        Run {
+            text: b"(let ((a (write-char #\\1)) (b 2) (c (write-char #\\3))) (if a 1 2))",
+            out: b"13",
             diag: b"",
             status: 0,
         },
-        Row {
-            words: &["go", "mac", "a.scm", "1024", "0"],
-            text: b"(write-char #\\a)",
-            out: b"",
+        // All values but #f are true.
+        Run {
+            text: b"(if 0 (write-char #\\y) (write-char #\\n)) (if #t (write-char #\\y) 1) (let () (write-char #\\z))",
+            out: b"yyz",
             diag: b"",
-            status: 8,
+            status: 0,
+        },
+        Run {
+            text: b"; a comment\n(WRITE-CHAR #\\A) ; and another",
+            out: b"A",
+            diag: b"",
+            status: 0,
+        },
+        Run {
+            text: b"(write-char 5)",
+            out: b"",
+            diag: b"failed 3 1:1\n",
+            status: 6,
+        },
+        Run {
+            text: b"(write-char #\\x)\n (begin 1 (write-char #t) (write-char #\\y))",
+            out: b"x",
+            diag: b"failed 3 2:11\n",
+            status: 6,
         },
     ];
-    for row in &rows {
-        let outcome = called(rt.alloc(), row.words, row.text, &[], &[])?;
-        assert_eq!(rt; outcome.status, row.status);
-        assert_eq!(rt; outcome.out.held(), row.out);
-        assert_eq!(rt; outcome.diag.held(), row.diag);
+    for run in &runs {
+        assert_eq!(rt; check_run(rt.alloc(), run)?, true);
+    }
+    Ok(())
+}
+
+#[test]
+fn sums_and_comparisons(rt: HostRuntime) -> Result<(), Fail> {
+    let runs = [
+        Run {
+            text: b"(let ((a 5) (b 3)) (if (< b a) (write-char #\\y) (write-char #\\n)))",
+            out: b"y",
+            diag: b"",
+            status: 0,
+        },
+        Run {
+            text: b"(if (< 3 3) (write-char #\\y) (write-char #\\n)) (if (= (+ 1 2) (- 5 2)) (write-char #\\y) 1)",
+            out: b"ny",
+            diag: b"",
+            status: 0,
+        },
+        Run {
+            text: b"(if (< (- 2 3) 0) (write-char #\\y) (write-char #\\n))",
+            out: b"y",
+            diag: b"",
+            status: 0,
+        },
+        Run {
+            text: b"(+ 536870911 1)",
+            out: b"",
+            diag: b"failed 4 1:1\n",
+            status: 6,
+        },
+        Run {
+            text: b"(- -536870912 1)",
+            out: b"",
+            diag: b"failed 4 1:1\n",
+            status: 6,
+        },
+        Run {
+            text: b"(+ 1 #t)",
+            out: b"",
+            diag: b"failed 3 1:1\n",
+            status: 6,
+        },
+        Run {
+            text: b"(= 1 (+ 1 (< #\\a 1)))",
+            out: b"",
+            diag: b"failed 3 1:11\n",
+            status: 6,
+        },
+        Run {
+            text: b"(+ 536870910 1) (- -536870911 1)",
+            out: b"",
+            diag: b"",
+            status: 0,
+        },
+    ];
+    for run in &runs {
+        assert_eq!(rt; check_run(rt.alloc(), run)?, true);
+    }
+    Ok(())
+}
+
+#[test]
+fn refused_texts(rt: HostRuntime) -> Result<(), Fail> {
+    let runs: [(&[u8], &[u8]); 15] = [
+        (b"(car 1)", b"refused 115 1:1\n"),
+        (b"1 (car 1)", b"refused 115 1:3\n"),
+        (b"(write-char #\\a) x", b"refused 115 1:18\n"),
+        (b"(let ((a 1) (a 2)) a)", b"refused 115 1:1\n"),
+        (b"(let ((if 1)) 2)", b"refused 115 1:1\n"),
+        (b"(let ((a 1) (b a)) b)", b"refused 115 1:1\n"),
+        (b"1\n (begin)", b"refused 115 2:2\n"),
+        (b"(if 1 2)", b"refused 115 1:1\n"),
+        (b"'a", b"refused 115 1:1\n"),
+        (b"(write-char#\\a)", b"refused 101 1:2\n"),
+        (b"1 ) 2", b"refused 101 1:3\n"),
+        (b"(display \"ab", b"refused 102 1:10\n"),
+        (b"(f . )", b"refused 101 1:6\n"),
+        (b"536870912", b"refused 105 1:1\n"),
+        (b"(car 1) )", b"refused 101 1:9\n"),
+    ];
+    for (text, line) in &runs {
+        let run = Run {
+            text,
+            out: b"",
+            diag: line,
+            status: 1,
+        };
+        assert_eq!(rt; check_run(rt.alloc(), &run)?, true);
+    }
+    Ok(())
+}
+
+#[test]
+fn words_and_steps(rt: HostRuntime) -> Result<(), Fail> {
+    let rows: [(&[&str], u8); 13] = [
+        (&[], 2),
+        (&["go", "vax", "a.scm", "4096", "1"], 2),
+        (&["go", "mac", "a.scm", "1023", "1"], 2),
+        (&["go", "mac", "", "4096", "1"], 2),
+        (&["go", "mac", "a.scm", "4096", "18446744073709551616"], 2),
+        (&["go", "mac", "a.scm", "4096", "18446744073709551615"], 0),
+        (&["go", "mac", "b.scm", "4096", "1"], 3),
+        (&["go", "mac", "a.scm", "1024", "0"], 8),
+        // A step for the frame, four for the form and one for the end.
+        (&["go", "mac", "a.scm", "1024", "4"], 8),
+        (&["go", "mac", "a.scm", "1024", "5"], 8),
+        (&["go", "mac", "a.scm", "1024", "6"], 0),
+        (&["go", "mac", "a.scm", "1024", "7"], 0),
+        (&["go", "mac", "a.scm", "1024"], 2),
+    ];
+    for (words, status) in &rows {
+        let outcome = called(rt.alloc(), words, b"(write-char #\\a)", &[], &[])?;
+        assert_eq!(rt; outcome.status, *status);
     }
     Ok(())
 }
@@ -207,20 +267,67 @@ fn long_files_are_refused(rt: HostRuntime) -> Result<(), Fail> {
     Ok(())
 }
 
-#[test]
-fn a_thousand_forms_are_accepted(rt: HostRuntime) -> Result<(), Fail> {
-    let go = ["go", "mac", "a.scm", "4096", "100000"];
-    let mut text = Vec::new(rt.alloc());
-    for _ in 0..1000 {
-        text.extend_from_slice(b"(write-char #\\x)")?;
+/// So many copies of a text, and then another.
+fn repeated(alloc: Global, part: &[u8], count: usize, last: &[u8]) -> Result<Vec<u8>, Fail> {
+    let mut text = Vec::new(alloc);
+    for _ in 0..count {
+        text.extend_from_slice(part)?;
     }
-    let accepted = called(rt.alloc(), &go, text.as_slice(), &[], &[])?;
-    assert_eq!(rt; accepted.status, 0);
-    assert_eq!(rt; accepted.out.held().len(), 1000);
-    text.extend_from_slice(b"(write-char #\\x)")?;
+    text.extend_from_slice(last)?;
+    Ok(text)
+}
+
+/// Whether the text that is so many copies of a part and another gives this line and status.
+fn repeated_gives(
+    alloc: Global,
+    part: &[u8],
+    count: usize,
+    last: &[u8],
+    line: &[u8],
+    status: u8,
+) -> Result<bool, Fail> {
+    let go = ["go", "mac", "a.scm", "4096", "100000"];
+    let text = repeated(alloc, part, count, last)?;
+    let outcome = called(alloc, &go, text.as_slice(), &[], &[])?;
+    Ok(outcome.status == status && outcome.diag.held() == line)
+}
+
+#[test]
+fn limits_of_texts(rt: HostRuntime) -> Result<(), Fail> {
+    let form = b"(write-char #\\x)";
+    // A thousand expressions are accepted, and the next one is refused.
+    assert_eq!(rt; repeated_gives(rt.alloc(), form, 500, b"", b"", 0)?, true);
     assert_eq!(rt;
-        called(rt.alloc(), &go, text.as_slice(), &[], &[])?.status,
-        1
+        repeated_gives(rt.alloc(), form, 500, b"1", b"refused 115 1:8001\n", 1)?,
+        true
+    );
+    // 256 brackets may be open.
+    let closed = repeated(rt.alloc(), b")", 255, b"")?;
+    let closed_more = repeated(rt.alloc(), b")", 256, b"")?;
+    let inner = repeated(rt.alloc(), form, 1, closed.as_slice())?;
+    let deep = repeated(rt.alloc(), form, 1, closed_more.as_slice())?;
+    assert_eq!(rt;
+        repeated_gives(rt.alloc(), b"(begin ", 255, inner.as_slice(), b"", 0)?,
+        true
+    );
+    assert_eq!(rt;
+        repeated_gives(
+            rt.alloc(),
+            b"(begin ",
+            256,
+            deep.as_slice(),
+            b"refused 103 1:1793\n",
+            1
+        )?,
+        true
+    );
+    assert_eq!(rt;
+        repeated_gives(rt.alloc(), b"(", 257, b"", b"refused 103 1:257\n", 1)?,
+        true
+    );
+    assert_eq!(rt;
+        repeated_gives(rt.alloc(), b"a", 256, b"", b"refused 104 1:1\n", 1)?,
+        true
     );
     Ok(())
 }

@@ -1,25 +1,26 @@
 -- What the command `go` does: its status, the bytes that it adds to `out` and the lines on `diag`.
-use Rattle.std.specs.Prelude.{◌≡◌, ℕ, ◌≤◌, ◌<◌, ◌⊎◌, List, [], ◌∷◌, ◌++◌, length, take, Option, Some, IfSome, All}
+use Rattle.std.specs.Prelude.{◌≡◌, ℕ, suc, ◌+◌, ◌*◌, ◌≤◌, ◌<◌, ◌⊎◌, List, [], ◌∷◌, ◌++◌, length, take, Option, Some, IfSome, All}
 use Rattle.tb_prim.specs.declared.place.Place.{Place}
 use Rattle.tb_prim.specs.declared.event.Cause.{Cause}
 use Rattle.tb_prim.specs.declared.event.Event.{Event}
 use Rattle.tb_prim.specs.declared.event.Stop.{Stop}
 use Rattle.tb_base.specs.Outside.{Rose, IsLonger}
-use Rattle.tb_semantics.specs.Runs.{after}
+use Rattle.tb_semantics.specs.Runs.{after, Ends}
 use Rattle.tb_core.specs.Tree.{Trees}
 use Rattle.tb_core.specs.OperandOrder.{order_of}
 use Rattle.tb_core.specs.Reference as ref
 use Rattle.tb_core.specs.Reference.{reference}
+use Rattle.tb_core.specs.Width.{square_sum}
 use Rattle.tb_macm.specs.declared.code.Instr.{Instr}
 use Rattle.tb_macm.specs.declared.code.PlaceEntry.{PlaceEntry}
 use Rattle.tb_macm.specs.MacStep.{Mac}
 use Rattle.tb_macm.specs.MacEvents as mac
 use Rattle.tb_macm.specs.MacEvents.{MacState, Going, Halted, mac_machine, puts}
 use Rattle.tb_macm.specs.RunDoes.{IsPassing}
+use Rattle.tb_small.specs.Compiled.{Compiles}
+use Rattle.tb_small.specs.Generate.{program_of}
 use Rattle.tb_twobit.specs.Words.{Go}
-use Rattle.tb_twobit.specs.Generate.{program_of}
-use Rattle.tb_twobit.specs.Compiled.{Compiles}
-use Rattle.tb_twobit.specs.SmallGrammar.{IsAccepted}
+use Rattle.tb_twobit.specs.Refusals.{Refusal, IsAccepted, IsRefusedWith}
 use Rattle.tb_twobit.specs.Statuses.{refused_line, failed_line}
 
 -- a sink before a call and after it: the bytes held, where it tells them, and its count of faults
@@ -54,6 +55,13 @@ pub data RunEnds (state : MacState) (taken steps : ℕ) (out diag : Sunk) : ℕ 
   -- status 8 where the steps were made without another stop
   out_of_steps : {m : Mac} (es : List Event) → state ≡ Going m es → All IsPassing es → taken ≡ steps → Gained diag [] → RunEnds state taken steps out diag 8
 
+-- so many steps are always enough: where the reference emits a list of j + 1 events and then stands still, a run
+-- that may make (8 * Q + 10) * (j + 1) steps does not end for want of steps, with Q the sum of the squared widths
+abbrev pub NeedsNoMore : Trees → ℕ → ℕ → Type 0
+NeedsNoMore forms steps status =
+    (j n : ℕ) (es : List Event) → Ends (reference (program_of forms) (order_of (program_of forms)) []) n es → length es ≡ suc j →
+    (8 * square_sum (program_of forms) + 10) * suc j ≤ steps → status ≡ 8 → ⊥
+
 -- a run of code that keeps the reference machine: the events emitted are the reference's at some moment, and
 -- the bytes added to `out` are those that they put
 pub record Runs (go : Go) (forms : Trees) (out diag : Sunk) (status : ℕ) : Type 0 where
@@ -66,6 +74,7 @@ pub record Runs (go : Go) (forms : Trees) (out diag : Sunk) (status : ℕ) : Typ
   pub like_reference : mac.events_of (after (mac_machine code places go.heap) taken) ≡ ref.events_of (after (reference (program_of forms) (order_of (program_of forms)) []) moment)
   pub put : Gained out (puts (mac.events_of (after (mac_machine code places go.heap) taken)))
   pub ends : RunEnds (after (mac_machine code places go.heap) taken) taken go.steps out diag status
+  pub needs_no_more : NeedsNoMore forms go.steps status
 
 -- what code that keeps the reference machine of these forms does: it runs, or there is no memory for its heap
 pub data CodeDoes (go : Go) (forms : Trees) (out diag : Sunk) : ℕ → Type 0 where
@@ -82,7 +91,7 @@ HasLongFile files name = IfSome files (λ f. IsLonger (f name) source_limit)
 
 -- what a text does, whichever the store: it is refused, or run, or there is no memory
 pub data TextDoes (go : Go) (bytes : List ℕ) (out diag : Sunk) : ℕ → Type 0 where
-  text_refused : ((forms : Trees) → IsAccepted bytes forms → ⊥) → Gained out [] → Said diag refused_line → TextDoes go bytes out diag 1
+  text_refused : (r : Refusal) → IsRefusedWith bytes r → Gained out [] → Said diag (refused_line r.number r.place) → TextDoes go bytes out diag 1
   text_no_memory : Gained out [] → Gained diag [] → TextDoes go bytes out diag 5
   text_ran : {status : ℕ} (forms : Trees) → IsAccepted bytes forms → Runs go forms out diag status → TextDoes go bytes out diag status
 
@@ -94,9 +103,9 @@ pub data GoDoes (go : Go) (files : Option (List ℕ → Option (List ℕ))) (loa
   no_memory : Gained out [] → Gained diag [] → GoDoes go files loads loads_now out diag 5
   -- status 11 where the file is longer than the limit
   too_long : HasLongFile files go.source → Gained out [] → Gained diag [] → GoDoes go files loads loads_now out diag 11
-  -- status 1 where the text is outside the grammar
-  refused : (bytes : List ℕ) → HasFile files go.source bytes → length bytes ≤ source_limit → ((forms : Trees) → IsAccepted bytes forms → ⊥) →
-      Gained out [] → Said diag refused_line → GoDoes go files loads loads_now out diag 1
+  -- status 1 where the text is refused, with the line of its first refusal
+  refused : (bytes : List ℕ) (r : Refusal) → HasFile files go.source bytes → length bytes ≤ source_limit → IsRefusedWith bytes r →
+      Gained out [] → Said diag (refused_line r.number r.place) → GoDoes go files loads loads_now out diag 1
   -- the others come from a run of the file's program
   ran : {status : ℕ} (bytes : List ℕ) (forms : Trees) → HasFile files go.source bytes → length bytes ≤ source_limit → IsAccepted bytes forms →
       Runs go forms out diag status → GoDoes go files loads loads_now out diag status

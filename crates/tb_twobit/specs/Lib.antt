@@ -1,12 +1,6 @@
 pub mod Words
 pub mod Asked
-pub mod Generate
-pub mod Compiled
-pub mod SmallForms
-pub mod SmallGrammar
-pub mod Bits
-pub mod SmallReading
-pub mod SmallCursors
 pub mod Statuses
+pub mod Refusals
 pub mod GoDoes
 pub mod Finish

@@ -40,11 +40,14 @@ abbrev pub library_text : Bool → List ℕ
 library_text true = codes "lib "
 library_text false = []
 
--- the line of a text that is refused as a whole
-abbrev pub refused_line : List ℕ
-refused_line = codes "refused 115 1:1" ++ 10 ∷ []
+-- a line of a word, a number, and a place as LINE:COLUMN
+abbrev pub placed_line : List ℕ → ℕ → Place → List ℕ
+placed_line word n p = joined (word ∷ decimal n ∷ codes " " ∷ library_text p.library ∷ decimal p.line ∷ codes ":" ∷ decimal p.column ∷ (10 ∷ []) ∷ [])
 
--- the line of a run that failed: its cause, and its place as LINE:COLUMN
+-- the line of a text that is refused: the number of the refusal, and its place
+abbrev pub refused_line : ℕ → Place → List ℕ
+refused_line n p = placed_line (codes "refused ") n p
+
+-- the line of a run that failed: its cause, and its place
 abbrev pub failed_line : Cause → Place → List ℕ
-failed_line c p =
-    joined (codes "failed " ∷ decimal (cause_number c) ∷ codes " " ∷ library_text p.library ∷ decimal p.line ∷ codes ":" ∷ decimal p.column ∷ (10 ∷ []) ∷ [])
+failed_line c p = placed_line (codes "failed ") (cause_number c) p

@@ -1,19 +1,23 @@
-ghost use Rattle.std.specs.Prelude.{◌≡◌, ◌≤◌, ◌+◌, ℕ, List, length, map};
+ghost use Rattle.std.specs.Prelude.{◌≡◌, ◌≤◌, ◌+◌, ℕ, false, List, length, map};
 ghost use Rattle.tb_base.specs.Outside.{CountsOnly, SameCounts};
 ghost use Rattle.tb_core.specs.View.{view, trees};
-ghost use Rattle.tb_twobit.specs.GoDoes.{CodeDoes, TextDoes, GoDoes};
-ghost use Rattle.tb_twobit.specs.SmallForms.{FormsFrom};
-ghost use Rattle.tb_twobit.specs.Statuses.{number};
+ghost use Rattle.tb_sexp.specs.Texts.{IsText};
+ghost use Rattle.tb_sexp.specs.View as sexp;
+ghost use Rattle.tb_small.specs.Compiled.{IsSmall};
+ghost use Rattle.tb_twobit.specs.GoDoes.{CodeDoes, TextDoes, GoDoes, Said};
+ghost use Rattle.tb_twobit.specs.Statuses.{number, refused_line};
+ghost use Rattle.tb_twobit.specs.declared.status.Status.TheVariants as S;
 
-use super::generator::generate;
 use super::lines::say_refused;
 use super::run::run_code;
-use super::small_reader::{SmallRefusal, read_small};
 use super::status::Status;
 use std::alloc::Global;
 use tb_base::{LoadFault, Sink, Source, Store};
 use tb_core::Expr;
-use tb_prim::NoMemory;
+use tb_forms::{FormRefusal, forms_of};
+use tb_prim::{NoMemory, Place};
+use tb_sexp::{Datum, ReadRefusal, read_all};
+use tb_small::generate;
 
 /// The most bytes of a source file.
 const SOURCE_LIMIT: u64 = 4_194_304;
@@ -50,6 +54,15 @@ pub fn go<S: Store, I: Source, O: Sink, E: Sink>(
     }
 }
 
+/// Says why and where the text is refused.
+fn refuse<E: Sink>(diag: &mut E, number: u32, place: Place) -> Status
+    ensures line { Said (record { before = E.held diag.old; now = E.held diag.new; faults = E.faults diag.old; faults_now = E.faults diag.new }) (refused_line number place) }
+    ensures status { result ≡ S.Refused }
+{
+    say_refused(diag, number, place);
+    Status::Refused
+}
+
 /// Reads the text, compiles it and runs it.
 fn go_text<I: Source, O: Sink, E: Sink>(
     alloc: Global,
@@ -70,13 +83,40 @@ fn go_text<I: Source, O: Sink, E: Sink>(
     ensures input { input.new ≡ input.old }
     ensures later { O.faults out.old ≤ O.faults out.new }
 {
-    match read_small(alloc, text) {
+    match read_all(alloc, text, false) {
+        Ok(data) => go_data(alloc, data.as_slice(), heap, steps, input, out, diag),
+        Err(ReadRefusal::Syntax(place)) => refuse(diag, 101, place),
+        Err(ReadRefusal::Unclosed(place)) => refuse(diag, 102, place),
+        Err(ReadRefusal::TooDeep(place)) => refuse(diag, 103, place),
+        Err(ReadRefusal::TooLong(place)) => refuse(diag, 104, place),
+        Err(ReadRefusal::TooBig(place)) => refuse(diag, 105, place),
+        Err(ReadRefusal::NoMemory) => Status::NoMemory,
+    }
+}
+
+/// Makes forms of the data of a text, compiles them and runs them.
+fn go_data<I: Source, O: Sink, E: Sink>(
+    alloc: Global,
+    data: &[Datum],
+    heap: u32,
+    steps: u64,
+    input: &mut I,
+    out: &mut O,
+    diag: &mut E,
+) -> Status
+    requires least { 1024 ≤ heap }
+    requires most { heap ≤ 33554432 }
+    ensures does { (source bytes : List ℕ) → IsText false bytes (map sexp.view data.now) → TextDoes (record { source = source; heap = heap; steps = steps }) bytes
+        (record { before = O.held out.old; now = O.held out.new; faults = O.faults out.old; faults_now = O.faults out.new })
+        (record { before = E.held diag.old; now = E.held diag.new; faults = E.faults diag.old; faults_now = E.faults diag.new })
+        (number result) }
+    ensures input { input.new ≡ input.old }
+    ensures later { O.faults out.old ≤ O.faults out.new }
+{
+    match forms_of(alloc, data) {
         Ok(forms) => go_forms(alloc, forms.as_slice(), heap, steps, input, out, diag),
-        Err(SmallRefusal::NotBuilt) => {
-            say_refused(diag);
-            Status::Refused
-        }
-        Err(SmallRefusal::NoMemory) => Status::NoMemory,
+        Err(FormRefusal::NotBuilt(place)) => refuse(diag, 115, place),
+        Err(FormRefusal::NoMemory) => Status::NoMemory,
     }
 }
 
@@ -90,8 +130,7 @@ fn go_forms<I: Source, O: Sink, E: Sink>(
     out: &mut O,
     diag: &mut E,
 ) -> Status
-    requires small { FormsFrom 0 (trees (map view forms.now)) }
-    requires few { length forms.now ≤ 1000 }
+    requires small { IsSmall (trees (map view forms.now)) }
     requires least { 1024 ≤ heap }
     requires most { heap ≤ 33554432 }
     ensures does { (source : List ℕ) → CodeDoes (record { source = source; heap = heap; steps = steps }) (trees (map view forms.now))

@@ -2,35 +2,48 @@ ghost use Rattle.std.specs.Prelude.{◌≡◌, map};
 ghost use Rattle.tb_base.specs.Outside.{HasCause, PutsAll};
 ghost use Rattle.tb_twobit.specs.GoDoes.{Said};
 ghost use Rattle.tb_twobit.specs.Statuses as statuses;
-ghost use Rattle.tb_twobit.specs.Statuses.{joined, refused_line, failed_line};
+ghost use Rattle.tb_twobit.specs.Statuses.{joined, placed_line, refused_line, failed_line};
 
 use itoa::Buffer;
 use tb_base::{Failed, Sink, put_all};
 use tb_prim::{Cause, Place};
 
-/// Says that the text is refused as a whole. A fault of `diag` changes nothing.
-pub fn say_refused<E: Sink>(diag: &mut E)
-    ensures { Said (record { before = E.held diag.old; now = E.held diag.new; faults = E.faults diag.old; faults_now = E.faults diag.new }) refused_line }
+/// Says why and where a text is refused. A fault of `diag` changes nothing.
+pub fn say_refused<E: Sink>(diag: &mut E, number: u32, place: Place)
+    ensures { Said (record { before = E.held diag.old; now = E.held diag.new; faults = E.faults diag.old; faults_now = E.faults diag.new }) (refused_line number place) }
 {
-    let _ = put_all(diag, b"refused 115 1:1\n");
+    let _ = put_placed(diag, b"refused ", number, place);
 }
 
 /// Says why and where a run failed. A fault of `diag` changes nothing.
 pub fn say_failed<E: Sink>(diag: &mut E, cause: Cause, place: Place)
     ensures { Said (record { before = E.held diag.old; now = E.held diag.new; faults = E.faults diag.old; faults_now = E.faults diag.new }) (failed_line cause place) }
 {
-    let _ = put_failed(diag, cause, place);
+    let _ = put_placed(diag, b"failed ", cause_number(cause), place);
 }
 
-fn put_failed<E: Sink>(diag: &mut E, cause: Cause, place: Place) -> Result<(), Failed>
-    ensures bytes { PutsAll (E.held diag.old) (E.held diag.new) (failed_line cause place) result }
+/// The number of the cause, 1 to 8.
+fn cause_number(cause: Cause) -> u32
+    ensures { result ≡ statuses.cause_number cause }
+{
+    cause as u32
+}
+
+/// Puts the line of a word, a number and a place.
+fn put_placed<E: Sink>(
+    diag: &mut E,
+    word: &'static [u8],
+    number: u32,
+    place: Place,
+) -> Result<(), Failed>
+    ensures bytes { PutsAll (E.held diag.old) (E.held diag.new) (placed_line word.now number place) result }
     ensures cause { HasCause (E.faults diag.old) (E.faults diag.new) result }
 {
     put_parts(
         diag,
         &[
-            b"failed ",
-            Buffer::new().format(cause as u32).as_bytes(),
+            word,
+            Buffer::new().format(number).as_bytes(),
             b" ",
             library_text(place.library),
             Buffer::new().format(place.line).as_bytes(),

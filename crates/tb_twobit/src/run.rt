@@ -1,8 +1,9 @@
-ghost use Rattle.std.specs.Prelude.{◌≡◌, ◌≤◌, ℕ, List};
+ghost use Rattle.std.specs.Prelude.{◌≡◌, ◌+◌, ◌*◌, ◌≤◌, ℕ, List, length};
 ghost use Rattle.tb_core.specs.Tree.{Trees};
-ghost use Rattle.tb_twobit.specs.Compiled.{Compiles};
+ghost use Rattle.tb_core.specs.Width.{square_sum};
+ghost use Rattle.tb_small.specs.Compiled.{Compiles};
+ghost use Rattle.tb_small.specs.Generate.{program_of};
 ghost use Rattle.tb_twobit.specs.Finish.{Finishes};
-ghost use Rattle.tb_twobit.specs.Generate.{program_of};
 ghost use Rattle.tb_twobit.specs.GoDoes.{CodeDoes};
 ghost use Rattle.tb_twobit.specs.Statuses.{number};
 
@@ -48,7 +49,7 @@ pub fn run_code<I: Source, O: Sink, E: Sink>(
     requires least { 1024 ≤ heap }
     requires most { heap ≤ 33554432 }
     ensures does { (source : List ℕ) (forms : Trees) → Compiles (program_of forms) code.now.code code.now.places →
-        CodeDoes (record { source = source; heap = heap; steps = steps }) forms
+        length code.now.code ≤ 8 * square_sum (program_of forms) + 8 → CodeDoes (record { source = source; heap = heap; steps = steps }) forms
         (record { before = O.held out.old; now = O.held out.new; faults = O.faults out.old; faults_now = O.faults out.new })
         (record { before = E.held diag.old; now = E.held diag.new; faults = E.faults diag.old; faults_now = E.faults diag.new })
         (number result) }
