@@ -8,3 +8,4 @@ pub mod View
 pub mod Frames
 pub mod Reading
 pub mod Runs
+pub mod Grammar
