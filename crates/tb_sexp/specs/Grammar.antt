@@ -32,10 +32,10 @@ mutual
   pub data IsDatum : ℕ → List Placed → Tree → Type 0 where
     an_atom : {n : ℕ} {p : Place} {t : Token} {s : Shape} → Atom t s → IsDatum n (at p t ∷ []) (At p s)
     a_mark : {n : ℕ} {p : Place} {m : Mark} {ts : List Placed} {d : Tree} → IsDatum n ts d → IsDatum (suc n) (at p (token.Mark m) ∷ ts) (marked p m d)
-    a_list : {n : ℕ} {p q : Place} {ts : List Placed} {ds : List Tree} → AreData n ts ds → IsDatum (suc n) (at p token.Open ∷ (ts ++ at q token.Close ∷ [])) (At p (list_of ds))
-    a_dotted_list : {n : ℕ} {p q r : Place} {ts us : List Placed} {ds : List Tree} {d : Tree} → AreData n ts ds → ds ≢ [] → IsDatum n us d →
+    a_list : {n : ℕ} {p : Place} {ts : List Placed} {ds : List Tree} (q : Place) → AreData n ts ds → IsDatum (suc n) (at p token.Open ∷ (ts ++ at q token.Close ∷ [])) (At p (list_of ds))
+    a_dotted_list : {n : ℕ} {p : Place} {ts us : List Placed} {ds : List Tree} {d : Tree} (q r : Place) → AreData n ts ds → ds ≢ [] → IsDatum n us d →
         IsDatum (suc n) (at p token.Open ∷ (ts ++ at q token.Dot ∷ (us ++ at r token.Close ∷ []))) (At p (dotted ds d))
-    a_vector : {n : ℕ} {p q : Place} {ts : List Placed} {ds : List Tree} → AreData n ts ds → IsDatum (suc n) (at p token.OpenVector ∷ (ts ++ at q token.Close ∷ [])) (At p (Vector (trees ds)))
+    a_vector : {n : ℕ} {p : Place} {ts : List Placed} {ds : List Tree} (q : Place) → AreData n ts ds → IsDatum (suc n) (at p token.OpenVector ∷ (ts ++ at q token.Close ∷ [])) (At p (Vector (trees ds)))
 
   -- the tokens spell the data, one after another
   pub data AreData : ℕ → List Placed → List Tree → Type 0 where
@@ -81,7 +81,7 @@ is_bracket (token.Name text) = false
 pub data Balanced : List Placed → Type 0 where
   no_bracket : Balanced []
   other_token : {p : Place} {t : Token} {ts : List Placed} → is_bracket t ≡ false → Balanced ts → Balanced (at p t ∷ ts)
-  closed : {p q : Place} {t : Token} {ts us : List Placed} → is_opening t ≡ true → Balanced ts → Balanced us → Balanced (at p t ∷ (ts ++ at q token.Close ∷ us))
+  closed : {p : Place} {t : Token} {ts us : List Placed} (q : Place) → is_opening t ≡ true → Balanced ts → Balanced us → Balanced (at p t ∷ (ts ++ at q token.Close ∷ us))
 
 -- the list or vector that was opened last, of those that are not closed, begins at the place
 pub record OpenedLast (ts : List Placed) (q : Place) : Type 0 where
