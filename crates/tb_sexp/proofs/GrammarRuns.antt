@@ -108,7 +108,7 @@ pub runs_same : {l k : ℕ} {s y z : State} {ts : List Placed} → Runs l s ts y
 runs_same done done = refl
 runs_same {k = k} {z = z} (next step run) (next {ts = ts} other more) = runs_same run (subst (λ r. Runs k r ts z) (sym (step_same step other)) more)
 
-last_step : {l : ℕ} {s z : State} {x : Placed} → Runs l s (x ∷ []) z → Step l s.finished s.frames x.place x.token z
+pub last_step : {l : ℕ} {s z : State} {x : Placed} → Runs l s (x ∷ []) z → Step l s.finished s.frames x.place x.token z
 last_step (next step done) = step
 
 pub reaches_runs : {ts : List Placed} {s : State} → Reaches ts s → Runs 256 nothing ts s
