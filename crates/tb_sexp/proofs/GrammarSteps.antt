@@ -62,8 +62,8 @@ same_by a b h = grind (arith, nat_tests)
 other_by : (a b : ℕ) → (a == b) ≡ false → a ≢ b
 other_by a b h = grind (arith, nat_tests)
 
--- an atom steps as its datum is given
-atom_only : {l : ℕ} {ds : List Tree} {fs : List Frame} {p : Place} {t : Token} {s : Shape} {s' : State} → takes_datum fs ≡ false → Atom t s → Step l ds fs p t s' → ⊥
+-- where no datum may stand, no atom does
+pub atom_only : {l : ℕ} {ds : List Tree} {fs : List Frame} {p : Place} {t : Token} {s : Shape} {s' : State} → takes_datum fs ≡ false → Atom t s → Step l ds fs p t s' → ⊥
 atom_only full a (begin_step takes low b) = false_true _ full takes
 atom_only full a (atom_step takes b) = false_true _ full takes
 atom_only full a list_step = elim a [ ]
