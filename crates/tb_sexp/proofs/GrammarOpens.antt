@@ -136,7 +136,7 @@ goes_on_with {us = vs} (inside_vector {ts = ts} {us = us} {p = p} o outer x) lev
     let c = goes_on_with o (omega arith) outer (a_vector {p = p} p (data_last x y)) in
     record { rest = at p token.Close ∷ c.rest; elements = c.elements; spelled = data_at (closed_list ts us vs c.rest (at p token.OpenVector) (at p token.Close)) c.spelled }
 
-shorter : {n : ℕ} (ts us : List Placed) → CanGoOn n (ts ++ us) → CanGoOn n ts
+pub shorter : {n : ℕ} (ts us : List Placed) → CanGoOn n (ts ++ us) → CanGoOn n ts
 shorter ts us c = record { rest = us ++ c.rest; elements = c.elements; spelled = data_at (append_assoc ts us c.rest) c.spelled }
 
 -- behind the tail of a dotted list its bracket can come

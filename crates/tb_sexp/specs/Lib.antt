@@ -9,3 +9,4 @@ pub mod Frames
 pub mod Reading
 pub mod Runs
 pub mod Grammar
+pub mod GrammarRows

@@ -4,6 +4,8 @@
 mod atoms;
 mod datum;
 mod frames;
+mod grammar_examples;
+mod grammar_laws;
 mod lexer;
 mod numbers;
 mod parser;
@@ -16,6 +18,11 @@ mod strings;
 mod token;
 
 pub use datum::{Datum, DatumRow, Node};
+pub use grammar_examples::worked_rows;
+pub use grammar_laws::{
+    atoms_stand_where_data_do, reached_data_are_spelled, reached_rows_can_go_on,
+    refusals_of_tokens, rows_that_end_early, spelled_data_are_reached,
+};
 pub use printer::print_datum;
 pub use reader::read_all;
 pub use refusal::ReadRefusal;

@@ -1,0 +1,20 @@
+ghost use Rattle.std.specs.Prelude.{ℕ, [], ◌∷◌};
+ghost use Rattle.tb_prim.specs.declared.place.Place.{Place};
+ghost use Rattle.tb_sexp.specs.declared.token.Mark.{Mark};
+ghost use Rattle.tb_sexp.specs.declared.token.Token.TheVariants as token;
+ghost use Rattle.tb_sexp.specs.Grammar.{AreData, CanGoOn, CanGoOnSomehow, OpenedLast, at};
+ghost use Rattle.tb_sexp.specs.GrammarRows.{joined_data, joined_row, quoted_data, quoted_row, row};
+
+/// Worked rows: `(a . (b))` and `'#(1) #t` spell data, two levels deep and no less; nothing begins with `(.`, `)` or
+/// `')`; `((` needs two levels; the vector is what was opened last in `( #( ()`.
+pub fn worked_rows()
+    ensures joined { (p : Place) → AreData 2 (row p joined_row) (joined_data p) }
+    ensures joined_deep { (p : Place) → CanGoOn 1 (row p joined_row) → ⊥ }
+    ensures quoted { (p : Place) → AreData 2 (row p quoted_row) (quoted_data p) }
+    ensures no_first { (p : Place) → CanGoOnSomehow (row p (token.Open ∷ token.Dot ∷ [])) → ⊥ }
+    ensures no_opening { (p : Place) → CanGoOnSomehow (row p (token.Close ∷ [])) → ⊥ }
+    ensures no_datum { (p : Place) (m : Mark) → CanGoOnSomehow (row p (token.Mark m ∷ token.Close ∷ [])) → ⊥ }
+    ensures two_levels { (p : Place) → CanGoOn 2 (row p (token.Open ∷ token.Open ∷ [])) }
+    ensures one_level { (p : Place) → CanGoOn 1 (row p (token.Open ∷ token.Open ∷ [])) → ⊥ }
+    ensures last { (p q r s : Place) → OpenedLast (at p token.Open ∷ at q token.OpenVector ∷ at r token.Open ∷ at s token.Close ∷ []) q }
+{}
