@@ -5,7 +5,7 @@ use Rattle.tb_sexp.specs.declared.token.Mark.{Mark}
 use Rattle.tb_sexp.specs.declared.token.Token.{Token}
 use Rattle.tb_sexp.specs.declared.token.Token.TheVariants as token
 use Rattle.tb_sexp.specs.Frames.{Frame, InMark, InList, AfterDot, AfterTail, InVector, State, list_of, dotted, marked, give}
-use Rattle.tb_sexp.specs.Grammar.{Placed, at, Atom, of_bool, IsDatum, an_atom, a_mark, a_list, a_dotted_list, a_vector, AreData, no_data, more_data, CanGoOn}
+use Rattle.tb_sexp.specs.Grammar.{Placed, placed, Atom, of_bool, IsDatum, an_atom, a_mark, a_list, a_dotted_list, a_vector, AreData, no_data, more_data, CanGoOn}
 use Rattle.tb_sexp.specs.Reading.{takes_datum}
 use Rattle.tb_sexp.specs.Runs.{nothing}
 use Rattle.tb_sexp.specs.Tree.{Tree, At, Shape, Vector}
@@ -17,15 +17,15 @@ use Rattle.tb_sexp.proofs.GrammarRuns.{Runs, done, next, Collects, runs_then, da
 pub data Opens : ℕ → List Placed → List Tree → List Frame → Type 0 where
   outside : {n : ℕ} {ts : List Placed} {ds : List Tree} → AreData n ts ds → Opens n ts ds []
   behind_mark : {n : ℕ} {ts : List Placed} {ds : List Tree} {fs : List Frame} {p : Place} {m : Mark} → Opens (suc n) ts ds fs → takes_datum fs ≡ true →
-      Opens n (ts ++ at p (token.Mark m) ∷ []) ds (InMark p m ∷ fs)
+      Opens n (ts ++ placed p (token.Mark m) ∷ []) ds (InMark p m ∷ fs)
   inside_list : {n : ℕ} {ts us : List Placed} {ds es : List Tree} {fs : List Frame} {p : Place} → Opens (suc n) ts ds fs → takes_datum fs ≡ true → AreData n us es →
-      Opens n (ts ++ at p token.Open ∷ us) ds (InList p es ∷ fs)
+      Opens n (ts ++ placed p token.Open ∷ us) ds (InList p es ∷ fs)
   behind_dot : {n : ℕ} {ts us : List Placed} {ds es : List Tree} {fs : List Frame} {p : Place} (q : Place) → Opens (suc n) ts ds fs → takes_datum fs ≡ true → AreData n us es → es ≢ [] →
-      Opens n (ts ++ at p token.Open ∷ (us ++ at q token.Dot ∷ [])) ds (AfterDot p es ∷ fs)
+      Opens n (ts ++ placed p token.Open ∷ (us ++ placed q token.Dot ∷ [])) ds (AfterDot p es ∷ fs)
   behind_tail : {n : ℕ} {ts us vs : List Placed} {ds es : List Tree} {d : Tree} {fs : List Frame} {p : Place} (q : Place) → Opens (suc n) ts ds fs → takes_datum fs ≡ true → AreData n us es → es ≢ [] → IsDatum n vs d →
-      Opens n (ts ++ at p token.Open ∷ (us ++ at q token.Dot ∷ vs)) ds (AfterTail p es d ∷ fs)
+      Opens n (ts ++ placed p token.Open ∷ (us ++ placed q token.Dot ∷ vs)) ds (AfterTail p es d ∷ fs)
   inside_vector : {n : ℕ} {ts us : List Placed} {ds es : List Tree} {fs : List Frame} {p : Place} → Opens (suc n) ts ds fs → takes_datum fs ≡ true → AreData n us es →
-      Opens n (ts ++ at p token.OpenVector ∷ us) ds (InVector p es ∷ fs)
+      Opens n (ts ++ placed p token.OpenVector ∷ us) ds (InVector p es ∷ fs)
 
 -- the same of a state, where `l` may be open
 pub record OpensState (l : ℕ) (ts : List Placed) (s : State) : Type 0 where
@@ -57,44 +57,44 @@ data_last {us = vs} (more_data {ts = ts} {us = us} x more) y = data_at (sym (app
 given : {n l : ℕ} {ts us : List Placed} {ds : List Tree} {fs : List Frame} {d : Tree} → Opens n ts ds fs → n + length fs ≡ l → takes_datum fs ≡ true → IsDatum n us d → OpensState l (ts ++ us) (give ds fs d)
 given {n = n} (outside x) levels takes y = record { left = n; levels = levels; opens = outside (data_last x y) }
 given {us = us} (behind_mark {ts = ts} {p = p} {m = m} o outer) levels takes y =
-    state_at (sym (append_assoc ts (at p (token.Mark m) ∷ []) us)) (given o (omega arith) outer (a_mark y))
+    state_at (sym (append_assoc ts (placed p (token.Mark m) ∷ []) us)) (given o (omega arith) outer (a_mark y))
 given {n = n} {us = vs} (inside_list {ts = ts} {us = us} {p = p} o outer x) levels takes y =
-    record { left = n; levels = levels; opens = opens_at (sym (append_assoc ts (at p token.Open ∷ us) vs)) (inside_list o outer (data_last x y)) }
+    record { left = n; levels = levels; opens = opens_at (sym (append_assoc ts (placed p token.Open ∷ us) vs)) (inside_list o outer (data_last x y)) }
 given {n = n} {us = vs} (behind_dot {ts = ts} {us = us} {p = p} q o outer x some) levels takes y =
     record { left = n; levels = levels; opens = opens_at (simp append_assoc) (behind_tail q o outer x some y) }
 given (behind_tail q o outer x some z) levels takes y = absurd (let e : ◌≡◌ {A = Bool} false true = takes in cc)
 given {n = n} {us = vs} (inside_vector {ts = ts} {us = us} {p = p} o outer x) levels takes y =
-    record { left = n; levels = levels; opens = opens_at (sym (append_assoc ts (at p token.OpenVector ∷ us) vs)) (inside_vector o outer (data_last x y)) }
+    record { left = n; levels = levels; opens = opens_at (sym (append_assoc ts (placed p token.OpenVector ∷ us) vs)) (inside_vector o outer (data_last x y)) }
 
 begun : {n l : ℕ} {ts : List Placed} {ds : List Tree} {fs : List Frame} {p : Place} {t : Token} {f : Frame} → Opens n ts ds fs → n + length fs ≡ l → takes_datum fs ≡ true → length fs < l → Begins p t f →
-    OpensState l (ts ++ at p t ∷ []) (record { finished = ds; frames = f ∷ fs })
+    OpensState l (ts ++ placed p t ∷ []) (record { finished = ds; frames = f ∷ fs })
 begun {n = zero} o levels takes low b = absurd (omega arith)
 begun {n = suc n} o levels takes low begins_list = record { left = n; levels = omega arith; opens = inside_list o takes no_data }
 begun {n = suc n} o levels takes low begins_vector = record { left = n; levels = omega arith; opens = inside_vector o takes no_data }
 begun {n = suc n} o levels takes low begins_mark = record { left = n; levels = omega arith; opens = behind_mark o takes }
 
 list_ended : {n l : ℕ} {ts : List Placed} {ds es : List Tree} {fs : List Frame} {q : Place} (p : Place) → Opens n ts ds (InList q es ∷ fs) → n + suc (length fs) ≡ l →
-    OpensState l (ts ++ at p token.Close ∷ []) (give ds fs (At q (list_of es)))
+    OpensState l (ts ++ placed p token.Close ∷ []) (give ds fs (At q (list_of es)))
 list_ended {q = q} p (inside_list {ts = ts} {us = us} o outer x) levels =
-    state_at (sym (append_assoc ts (at q token.Open ∷ us) (at p token.Close ∷ []))) (given o (omega arith) outer (a_list p x))
+    state_at (sym (append_assoc ts (placed q token.Open ∷ us) (placed p token.Close ∷ []))) (given o (omega arith) outer (a_list p x))
 
 vector_ended : {n l : ℕ} {ts : List Placed} {ds es : List Tree} {fs : List Frame} {q : Place} (p : Place) → Opens n ts ds (InVector q es ∷ fs) → n + suc (length fs) ≡ l →
-    OpensState l (ts ++ at p token.Close ∷ []) (give ds fs (At q (Vector (trees es))))
+    OpensState l (ts ++ placed p token.Close ∷ []) (give ds fs (At q (Vector (trees es))))
 vector_ended {q = q} p (inside_vector {ts = ts} {us = us} o outer x) levels =
-    state_at (sym (append_assoc ts (at q token.OpenVector ∷ us) (at p token.Close ∷ []))) (given o (omega arith) outer (a_vector p x))
+    state_at (sym (append_assoc ts (placed q token.OpenVector ∷ us) (placed p token.Close ∷ []))) (given o (omega arith) outer (a_vector p x))
 
 tail_ended : {n l : ℕ} {ts : List Placed} {ds es : List Tree} {d : Tree} {fs : List Frame} {q : Place} (p : Place) → Opens n ts ds (AfterTail q es d ∷ fs) → n + suc (length fs) ≡ l →
-    OpensState l (ts ++ at p token.Close ∷ []) (give ds fs (At q (dotted es d)))
+    OpensState l (ts ++ placed p token.Close ∷ []) (give ds fs (At q (dotted es d)))
 tail_ended {q = q} p (behind_tail {ts = ts} {us = us} {vs = vs} r o outer x some y) levels =
     state_at (simp append_assoc) (given o (omega arith) outer (a_dotted_list r p x some y))
 
 dotted_now : {n l : ℕ} {ts : List Placed} {ds es : List Tree} {fs : List Frame} {q : Place} (p : Place) → es ≢ [] → Opens n ts ds (InList q es ∷ fs) → n + suc (length fs) ≡ l →
-    OpensState l (ts ++ at p token.Dot ∷ []) (record { finished = ds; frames = AfterDot q es ∷ fs })
+    OpensState l (ts ++ placed p token.Dot ∷ []) (record { finished = ds; frames = AfterDot q es ∷ fs })
 dotted_now {n = n} {q = q} p some (inside_list {ts = ts} {us = us} o outer x) levels =
-    record { left = n; levels = levels; opens = opens_at (sym (append_assoc ts (at q token.Open ∷ us) (at p token.Dot ∷ []))) (behind_dot p o outer x some) }
+    record { left = n; levels = levels; opens = opens_at (sym (append_assoc ts (placed q token.Open ∷ us) (placed p token.Dot ∷ []))) (behind_dot p o outer x some) }
 
 -- each token keeps it
-opens_step : {n l : ℕ} {ts : List Placed} {ds : List Tree} {fs : List Frame} {p : Place} {t : Token} {s : State} → Step l ds fs p t s → Opens n ts ds fs → n + length fs ≡ l → OpensState l (ts ++ at p t ∷ []) s
+opens_step : {n l : ℕ} {ts : List Placed} {ds : List Tree} {fs : List Frame} {p : Place} {t : Token} {s : State} → Step l ds fs p t s → Opens n ts ds fs → n + length fs ≡ l → OpensState l (ts ++ placed p t ∷ []) s
 opens_step (begin_step takes low b) o levels = begun o levels takes low b
 opens_step (atom_step takes a) o levels = given o levels takes (an_atom a)
 opens_step {p = p} list_step o levels = list_ended p o levels
@@ -124,17 +124,17 @@ goes_on_with {n = n} {ts = ts} {us = us} {ds = ds} {d = d} (outside x) levels ta
     let e : n ≡ n + 0 = omega arith in
     subst (λ k. CanGoOn k (ts ++ us)) (e ∙ levels) (record { rest = []; elements = ds ++ d ∷ []; spelled = data_at (sym (append-nil (ts ++ us))) (data_last x y) })
 goes_on_with {us = us} (behind_mark {ts = ts} {p = p} {m = m} o outer) levels takes y =
-    go_on_at (sym (append_assoc ts (at p (token.Mark m) ∷ []) us)) (goes_on_with o (omega arith) outer (a_mark y))
+    go_on_at (sym (append_assoc ts (placed p (token.Mark m) ∷ []) us)) (goes_on_with o (omega arith) outer (a_mark y))
 goes_on_with {us = vs} (inside_list {ts = ts} {us = us} {p = p} o outer x) levels takes y =
     let c = goes_on_with o (omega arith) outer (a_list {p = p} p (data_last x y)) in
-    record { rest = at p token.Close ∷ c.rest; elements = c.elements; spelled = data_at (closed_list ts us vs c.rest (at p token.Open) (at p token.Close)) c.spelled }
+    record { rest = placed p token.Close ∷ c.rest; elements = c.elements; spelled = data_at (closed_list ts us vs c.rest (placed p token.Open) (placed p token.Close)) c.spelled }
 goes_on_with {us = vs} (behind_dot {ts = ts} {us = us} {p = p} q o outer x some) levels takes y =
     let c = goes_on_with o (omega arith) outer (a_dotted_list {p = p} q p x some y) in
-    record { rest = at p token.Close ∷ c.rest; elements = c.elements; spelled = data_at (closed_tail ts us vs c.rest (at p token.Open) (at q token.Dot) (at p token.Close)) c.spelled }
+    record { rest = placed p token.Close ∷ c.rest; elements = c.elements; spelled = data_at (closed_tail ts us vs c.rest (placed p token.Open) (placed q token.Dot) (placed p token.Close)) c.spelled }
 goes_on_with (behind_tail q o outer x some z) levels takes y = absurd (let e : ◌≡◌ {A = Bool} false true = takes in cc)
 goes_on_with {us = vs} (inside_vector {ts = ts} {us = us} {p = p} o outer x) levels takes y =
     let c = goes_on_with o (omega arith) outer (a_vector {p = p} p (data_last x y)) in
-    record { rest = at p token.Close ∷ c.rest; elements = c.elements; spelled = data_at (closed_list ts us vs c.rest (at p token.OpenVector) (at p token.Close)) c.spelled }
+    record { rest = placed p token.Close ∷ c.rest; elements = c.elements; spelled = data_at (closed_list ts us vs c.rest (placed p token.OpenVector) (placed p token.Close)) c.spelled }
 
 pub shorter : {n : ℕ} (ts us : List Placed) → CanGoOn n (ts ++ us) → CanGoOn n ts
 shorter ts us c = record { rest = us ++ c.rest; elements = c.elements; spelled = data_at (append_assoc ts us c.rest) c.spelled }
@@ -143,7 +143,7 @@ shorter ts us c = record { rest = us ++ c.rest; elements = c.elements; spelled =
 tail_goes_on : {n l : ℕ} {ts : List Placed} {ds es : List Tree} {d : Tree} {fs : List Frame} {q : Place} → Opens n ts ds (AfterTail q es d ∷ fs) → n + suc (length fs) ≡ l → CanGoOn l ts
 tail_goes_on {q = q} (behind_tail {ts = ts} {us = us} {vs = vs} r o outer x some y) levels =
     let c = goes_on_with o (omega arith) outer (a_dotted_list {p = q} r q x some y) in
-    record { rest = at q token.Close ∷ c.rest; elements = c.elements; spelled = data_at (closed_after ts us vs c.rest (at q token.Open) (at r token.Dot) (at q token.Close)) c.spelled }
+    record { rest = placed q token.Close ∷ c.rest; elements = c.elements; spelled = data_at (closed_after ts us vs c.rest (placed q token.Open) (placed r token.Dot) (placed q token.Close)) c.spelled }
 
 any_place : Place
 any_place = record { library = false; line = 1; column = 1 }
@@ -191,8 +191,8 @@ pub record Steps (n : ℕ) (s : State) (p : Place) (t : Token) : Type 0 where
   pub state : State
   pub step : Step n s.finished s.frames p t state
 
-pub go_on_steps : {k n : ℕ} {ts : List Placed} {s : State} (p : Place) (t : Token) → Runs k nothing ts s → CanGoOn n (ts ++ at p t ∷ []) → Steps n s p t
+pub go_on_steps : {k n : ℕ} {ts : List Placed} {s : State} (p : Place) (t : Token) → Runs k nothing ts s → CanGoOn n (ts ++ placed p t ∷ []) → Steps n s p t
 go_on_steps {k = k} {n = n} {ts = ts} {s = s} p t run c =
     let on = go_on_runs c in
-    let parts = parted nothing on.state ts (at p t ∷ []) on.run in
+    let parts = parted nothing on.state ts (placed p t ∷ []) on.run in
     record { state = on.state; step = subst (λ (r : State). Step n r.finished r.frames p t on.state) (runs_same parts.first run) (last_step parts.second) }

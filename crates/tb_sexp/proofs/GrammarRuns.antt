@@ -6,7 +6,7 @@ use Rattle.tb_sexp.specs.declared.token.Token.{Token}
 use Rattle.tb_sexp.specs.declared.token.Token.TheVariants as token
 use Rattle.tb_sexp.specs.declared.refusal.ReadRefusal.{ReadRefusal}
 use Rattle.tb_sexp.specs.Frames.{Frame, InMark, InList, AfterDot, AfterTail, InVector, State, list_of, dotted, marked, give}
-use Rattle.tb_sexp.specs.Grammar.{Placed, at, Atom, of_bool, of_fix, of_char, of_str, of_name, IsDatum, an_atom, a_mark, a_list, a_dotted_list, a_vector, AreData, no_data, more_data, CanGoOn, Reaches, start, one_more}
+use Rattle.tb_sexp.specs.Grammar.{Placed, placed, Atom, of_bool, of_fix, of_char, of_str, of_name, IsDatum, an_atom, a_mark, a_list, a_dotted_list, a_vector, AreData, no_data, more_data, CanGoOn, Reaches, start, one_more}
 use Rattle.tb_sexp.specs.Reading.{takes_datum, accept}
 use Rattle.tb_sexp.specs.Runs.{nothing}
 use Rattle.tb_sexp.specs.Tree.{Tree, At, Shape, Vector}
@@ -113,7 +113,7 @@ last_step (next step done) = step
 
 pub reaches_runs : {ts : List Placed} {s : State} → Reaches ts s → Runs 256 nothing ts s
 reaches_runs start = done
-reaches_runs (one_more {s = s} {s' = s'} p t rest reached e) = runs_then (reaches_runs reached) (next {x = at p t} (step_accept s s' p t rest e) done)
+reaches_runs (one_more {s = s} {s' = s'} p t rest reached e) = runs_then (reaches_runs reached) (next {x = placed p t} (step_accept s s' p t rest e) done)
 
 reaches_on : {us ts : List Placed} {s z : State} → Reaches us s → Runs 256 s ts z → Reaches (us ++ ts) z
 reaches_on {us = us} {z = z} reached done = subst (λ vs. Reaches vs z) (sym (append-nil us)) reached

@@ -10,7 +10,7 @@ use Rattle.tb_sexp.specs.declared.refusal.ReadRefusal.{ReadRefusal}
 use Rattle.tb_sexp.specs.declared.refusal.ReadRefusal.TheVariants.{Syntax, Unclosed, TooDeep, TooLong, TooBig, NoMemory}
 use Rattle.tb_sexp.specs.Bytes.{blanks}
 use Rattle.tb_sexp.specs.Frames.{Frame, InMark, InList, AfterDot, AfterTail, InVector, State, list_of, dotted, marked, give}
-use Rattle.tb_sexp.specs.Grammar.{Placed, at, Atom, of_bool, of_fix, of_char, of_str, of_name}
+use Rattle.tb_sexp.specs.Grammar.{Placed, placed, Atom, of_bool, of_fix, of_char, of_str, of_name}
 use Rattle.tb_sexp.specs.Reading.{takes_datum, close, dot, deep_mark, accept}
 use Rattle.tb_sexp.specs.Tree.{Tree, At, Shape, Vector}
 use Rattle.tb_sexp.specs.View.{trees}

@@ -16,8 +16,8 @@ pub record Placed : Type 0 where
   pub place : Place
   pub token : Token
 
-abbrev pub at : Place → Token → Placed
-at p t = record { place = p; token = t }
+abbrev pub placed : Place → Token → Placed
+placed p t = record { place = p; token = t }
 
 -- a token that is a datum by itself
 pub data Atom : Token → Shape → Type 0 where
@@ -30,12 +30,12 @@ pub data Atom : Token → Shape → Type 0 where
 mutual
   -- the tokens spell the datum, where at most `n` lists, vectors and marks stand inside one another
   pub data IsDatum : ℕ → List Placed → Tree → Type 0 where
-    an_atom : {n : ℕ} {p : Place} {t : Token} {s : Shape} → Atom t s → IsDatum n (at p t ∷ []) (At p s)
-    a_mark : {n : ℕ} {p : Place} {m : Mark} {ts : List Placed} {d : Tree} → IsDatum n ts d → IsDatum (suc n) (at p (token.Mark m) ∷ ts) (marked p m d)
-    a_list : {n : ℕ} {p : Place} {ts : List Placed} {ds : List Tree} (q : Place) → AreData n ts ds → IsDatum (suc n) (at p token.Open ∷ (ts ++ at q token.Close ∷ [])) (At p (list_of ds))
+    an_atom : {n : ℕ} {p : Place} {t : Token} {s : Shape} → Atom t s → IsDatum n (placed p t ∷ []) (At p s)
+    a_mark : {n : ℕ} {p : Place} {m : Mark} {ts : List Placed} {d : Tree} → IsDatum n ts d → IsDatum (suc n) (placed p (token.Mark m) ∷ ts) (marked p m d)
+    a_list : {n : ℕ} {p : Place} {ts : List Placed} {ds : List Tree} (q : Place) → AreData n ts ds → IsDatum (suc n) (placed p token.Open ∷ (ts ++ placed q token.Close ∷ [])) (At p (list_of ds))
     a_dotted_list : {n : ℕ} {p : Place} {ts us : List Placed} {ds : List Tree} {d : Tree} (q r : Place) → AreData n ts ds → ds ≢ [] → IsDatum n us d →
-        IsDatum (suc n) (at p token.Open ∷ (ts ++ at q token.Dot ∷ (us ++ at r token.Close ∷ []))) (At p (dotted ds d))
-    a_vector : {n : ℕ} {p : Place} {ts : List Placed} {ds : List Tree} (q : Place) → AreData n ts ds → IsDatum (suc n) (at p token.OpenVector ∷ (ts ++ at q token.Close ∷ [])) (At p (Vector (trees ds)))
+        IsDatum (suc n) (placed p token.Open ∷ (ts ++ placed q token.Dot ∷ (us ++ placed r token.Close ∷ []))) (At p (dotted ds d))
+    a_vector : {n : ℕ} {p : Place} {ts : List Placed} {ds : List Tree} (q : Place) → AreData n ts ds → IsDatum (suc n) (placed p token.OpenVector ∷ (ts ++ placed q token.Close ∷ [])) (At p (Vector (trees ds)))
 
   -- the tokens spell the data, one after another
   pub data AreData : ℕ → List Placed → List Tree → Type 0 where
@@ -80,15 +80,15 @@ is_bracket (token.Name text) = false
 -- each bracket that opens is closed, and no other bracket closes
 pub data Balanced : List Placed → Type 0 where
   no_bracket : Balanced []
-  other_token : {p : Place} {t : Token} {ts : List Placed} → is_bracket t ≡ false → Balanced ts → Balanced (at p t ∷ ts)
-  closed : {p : Place} {t : Token} {ts us : List Placed} (q : Place) → is_opening t ≡ true → Balanced ts → Balanced us → Balanced (at p t ∷ (ts ++ at q token.Close ∷ us))
+  other_token : {p : Place} {t : Token} {ts : List Placed} → is_bracket t ≡ false → Balanced ts → Balanced (placed p t ∷ ts)
+  closed : {p : Place} {t : Token} {ts us : List Placed} (q : Place) → is_opening t ≡ true → Balanced ts → Balanced us → Balanced (placed p t ∷ (ts ++ placed q token.Close ∷ us))
 
 -- the list or vector that was opened last, of those that are not closed, begins at the place
 pub record OpenedLast (ts : List Placed) (q : Place) : Type 0 where
   pub front : List Placed
   pub opening : Token
   pub inside : List Placed
-  pub is : ts ≡ front ++ at q opening ∷ inside
+  pub is : ts ≡ front ++ placed q opening ∷ inside
   pub opens : is_opening opening ≡ true
   pub balanced : Balanced inside
 
@@ -100,7 +100,7 @@ pub record EndsWith (ts : List Placed) (x : Placed) : Type 0 where
 -- reading comes to the state behind the tokens, whatever texts they stand in
 pub data Reaches : List Placed → State → Type 0 where
   start : Reaches [] nothing
-  one_more : {ts : List Placed} {s s' : State} (p : Place) (t : Token) (rest : List ℕ) → Reaches ts s → accept s p t rest ≡ Ok s' → Reaches (ts ++ at p t ∷ []) s'
+  one_more : {ts : List Placed} {s s' : State} (p : Place) (t : Token) (rest : List ℕ) → Reaches ts s → accept s p t rest ≡ Ok s' → Reaches (ts ++ placed p t ∷ []) s'
 
 -- a list or a vector that is not closed, which begins at the place
 pub data IsOpenAt : Frame → Place → Type 0 where

@@ -4,12 +4,12 @@ use Rattle.tb_prim.specs.declared.place.Place.{Place}
 use Rattle.tb_sexp.specs.declared.token.Mark.TheVariants.{Quote}
 use Rattle.tb_sexp.specs.declared.token.Token.{Token}
 use Rattle.tb_sexp.specs.declared.token.Token.TheVariants as token
-use Rattle.tb_sexp.specs.Grammar.{Placed, at}
+use Rattle.tb_sexp.specs.Grammar.{Placed, placed}
 use Rattle.tb_sexp.specs.Tree.{Tree, At, Truth, Fixnum, Name, Proper, Vector, none, more}
 
 abbrev pub row : Place → List Token → List Placed
 row p [] = []
-row p (t ∷ ts) = at p t ∷ row p ts
+row p (t ∷ ts) = placed p t ∷ row p ts
 
 -- `(a . (b))` spells `(a b)`
 abbrev pub joined_row : List Token

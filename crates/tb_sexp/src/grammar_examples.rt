@@ -2,7 +2,7 @@ ghost use Rattle.std.specs.Prelude.{ℕ, [], ◌∷◌};
 ghost use Rattle.tb_prim.specs.declared.place.Place.{Place};
 ghost use Rattle.tb_sexp.specs.declared.token.Mark.{Mark};
 ghost use Rattle.tb_sexp.specs.declared.token.Token.TheVariants as token;
-ghost use Rattle.tb_sexp.specs.Grammar.{AreData, CanGoOn, CanGoOnSomehow, OpenedLast, at};
+ghost use Rattle.tb_sexp.specs.Grammar.{AreData, CanGoOn, CanGoOnSomehow, OpenedLast, placed};
 ghost use Rattle.tb_sexp.specs.GrammarRows.{joined_data, joined_row, quoted_data, quoted_row, row};
 
 /// Worked rows: `(a . (b))` and `'#(1) #t` spell data, two levels deep and no less; nothing begins with `(.`, `)` or
@@ -16,5 +16,5 @@ pub fn worked_rows()
     ensures no_datum { (p : Place) (m : Mark) → CanGoOnSomehow (row p (token.Mark m ∷ token.Close ∷ [])) → ⊥ }
     ensures two_levels { (p : Place) → CanGoOn 2 (row p (token.Open ∷ token.Open ∷ [])) }
     ensures one_level { (p : Place) → CanGoOn 1 (row p (token.Open ∷ token.Open ∷ [])) → ⊥ }
-    ensures last { (p q r s : Place) → OpenedLast (at p token.Open ∷ at q token.OpenVector ∷ at r token.Open ∷ at s token.Close ∷ []) q }
+    ensures last { (p q r s : Place) → OpenedLast (placed p token.Open ∷ placed q token.OpenVector ∷ placed r token.Open ∷ placed s token.Close ∷ []) q }
 {}

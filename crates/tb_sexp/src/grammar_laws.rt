@@ -7,7 +7,7 @@ ghost use Rattle.tb_sexp.specs.declared.token.Token.{Token};
 ghost use Rattle.tb_sexp.specs.declared.token.Token.TheVariants as token;
 ghost use Rattle.tb_sexp.specs.Bytes.{blanks};
 ghost use Rattle.tb_sexp.specs.Frames.{Frame, InMark, State};
-ghost use Rattle.tb_sexp.specs.Grammar.{AreData, Atom, CanGoOn, CanGoOnSomehow, EndsWith, IsLastMark, IsOpenAt, OpenedLast, Placed, Reaches, at};
+ghost use Rattle.tb_sexp.specs.Grammar.{AreData, Atom, CanGoOn, CanGoOnSomehow, EndsWith, IsLastMark, IsOpenAt, OpenedLast, Placed, Reaches, placed};
 ghost use Rattle.tb_sexp.specs.Reading.{accept, takes_datum};
 ghost use Rattle.tb_sexp.specs.Tree.{Shape, Tree};
 
@@ -33,22 +33,22 @@ pub fn reached_rows_can_go_on()
 /// A token is refused where no row that spells data begins with it and the tokens before it. It is `TooDeep` where one
 /// does with more levels, and else `Syntax`; but a mark that is too deep is `Syntax` where no token follows.
 pub fn refusals_of_tokens()
-    ensures syntax { (ts : List Placed) (s : State) (p q : Place) (t : Token) (rest : List ℕ) → Reaches ts s → accept s p t rest ≡ Err (refusal.Syntax q) → (q ≡ p) × ((CanGoOnSomehow (ts ++ at p t ∷ []) → ⊥) ⊎ IsLastMark s t rest) }
-    ensures too_deep { (ts : List Placed) (s : State) (p q : Place) (t : Token) (rest : List ℕ) → Reaches ts s → accept s p t rest ≡ Err (refusal.TooDeep q) → (q ≡ p) × CanGoOnSomehow (ts ++ at p t ∷ []) × (CanGoOn 256 (ts ++ at p t ∷ []) → ⊥) × ((m : Mark) → t ≡ token.Mark m → blanks rest ≢ length rest) }
+    ensures syntax { (ts : List Placed) (s : State) (p q : Place) (t : Token) (rest : List ℕ) → Reaches ts s → accept s p t rest ≡ Err (refusal.Syntax q) → (q ≡ p) × ((CanGoOnSomehow (ts ++ placed p t ∷ []) → ⊥) ⊎ IsLastMark s t rest) }
+    ensures too_deep { (ts : List Placed) (s : State) (p q : Place) (t : Token) (rest : List ℕ) → Reaches ts s → accept s p t rest ≡ Err (refusal.TooDeep q) → (q ≡ p) × CanGoOnSomehow (ts ++ placed p t ∷ []) × (CanGoOn 256 (ts ++ placed p t ∷ []) → ⊥) × ((m : Mark) → t ≡ token.Mark m → blanks rest ≢ length rest) }
     ensures no_other { (s : State) (p : Place) (t : Token) (rest : List ℕ) (e : ReadRefusal) → accept s p t rest ≡ Err e → (e ≡ refusal.Syntax p) ⊎ (e ≡ refusal.TooDeep p) }
-    ensures accepted { (ts : List Placed) (s : State) (p : Place) (t : Token) (rest : List ℕ) → Reaches ts s → CanGoOn 256 (ts ++ at p t ∷ []) → (r : State) × (accept s p t rest ≡ Ok r) }
+    ensures accepted { (ts : List Placed) (s : State) (p : Place) (t : Token) (rest : List ℕ) → Reaches ts s → CanGoOn 256 (ts ++ placed p t ∷ []) → (r : State) × (accept s p t rest ≡ Ok r) }
 {}
 
 /// A datum can stand behind the tokens where the row can go on with an atom.
 pub fn atoms_stand_where_data_do()
-    ensures taken { (ts : List Placed) (s : State) (p : Place) (t : Token) (shape : Shape) → Reaches ts s → takes_datum s.frames ≡ true → Atom t shape → CanGoOn 256 (ts ++ at p t ∷ []) }
-    ensures refused { (ts : List Placed) (s : State) (p : Place) (t : Token) (shape : Shape) → Reaches ts s → takes_datum s.frames ≡ false → Atom t shape → CanGoOnSomehow (ts ++ at p t ∷ []) → ⊥ }
+    ensures taken { (ts : List Placed) (s : State) (p : Place) (t : Token) (shape : Shape) → Reaches ts s → takes_datum s.frames ≡ true → Atom t shape → CanGoOn 256 (ts ++ placed p t ∷ []) }
+    ensures refused { (ts : List Placed) (s : State) (p : Place) (t : Token) (shape : Shape) → Reaches ts s → takes_datum s.frames ≡ false → Atom t shape → CanGoOnSomehow (ts ++ placed p t ∷ []) → ⊥ }
 {}
 
 /// A row of tokens that ends while a mark, a list or a vector is open spells no data. A mark that is open is the last
 /// token; a list or vector is the one that was opened last, and the last token is then no mark.
 pub fn rows_that_end_early()
-    ensures mark { (ts : List Placed) (s : State) (q : Place) (m : Mark) (fs : List Frame) → Reaches ts s → s.frames ≡ InMark q m ∷ fs → EndsWith ts (at q (token.Mark m)) × ((n : ℕ) (ds : List Tree) → AreData n ts ds → ⊥) }
-    ensures bracket { (ts : List Placed) (s : State) (q : Place) (f : Frame) (fs : List Frame) → Reaches ts s → s.frames ≡ f ∷ fs → IsOpenAt f q → OpenedLast ts q × ((p : Place) (m : Mark) → EndsWith ts (at p (token.Mark m)) → ⊥) × ((n : ℕ) (ds : List Tree) → AreData n ts ds → ⊥) }
+    ensures mark { (ts : List Placed) (s : State) (q : Place) (m : Mark) (fs : List Frame) → Reaches ts s → s.frames ≡ InMark q m ∷ fs → EndsWith ts (placed q (token.Mark m)) × ((n : ℕ) (ds : List Tree) → AreData n ts ds → ⊥) }
+    ensures bracket { (ts : List Placed) (s : State) (q : Place) (f : Frame) (fs : List Frame) → Reaches ts s → s.frames ≡ f ∷ fs → IsOpenAt f q → OpenedLast ts q × ((p : Place) (m : Mark) → EndsWith ts (placed p (token.Mark m)) → ⊥) × ((n : ℕ) (ds : List Tree) → AreData n ts ds → ⊥) }
     ensures one { (ts : List Placed) (q r : Place) → OpenedLast ts q → OpenedLast ts r → q ≡ r }
 {}

@@ -5,7 +5,7 @@ use Rattle.tb_sexp.specs.declared.token.Mark.TheVariants.{Quote}
 use Rattle.tb_sexp.specs.declared.token.Token.{Token}
 use Rattle.tb_sexp.specs.declared.token.Token.TheVariants as token
 use Rattle.tb_sexp.specs.Frames.{Frame, InMark, InList, AfterDot, State}
-use Rattle.tb_sexp.specs.Grammar.{Placed, at, Atom, of_bool, of_fix, of_name, IsDatum, an_atom, a_mark, a_list, a_dotted_list, a_vector, AreData, no_data, more_data, CanGoOn, CanGoOnSomehow, OpenedLast, Balanced, no_bracket, other_token, closed}
+use Rattle.tb_sexp.specs.Grammar.{Placed, placed, Atom, of_bool, of_fix, of_name, IsDatum, an_atom, a_mark, a_list, a_dotted_list, a_vector, AreData, no_data, more_data, CanGoOn, CanGoOnSomehow, OpenedLast, Balanced, no_bracket, other_token, closed}
 use Rattle.tb_sexp.specs.GrammarRows.{row, joined_row, joined_data, quoted_row, quoted_data}
 use Rattle.tb_sexp.specs.Runs.{nothing}
 use Rattle.tb_sexp.specs.Tree.{Tree, At, Name}
@@ -19,15 +19,15 @@ one x = more_data x no_data
 
 joined_spelled : (p : Place) → AreData 2 (row p joined_row) (joined_data p)
 joined_spelled p =
-    let a : AreData 1 (at p (token.Name (codes "a")) ∷ []) (At p (Name (codes "a") 0) ∷ []) = one (an_atom of_name) in
-    let b : AreData 0 (at p (token.Name (codes "b")) ∷ []) (At p (Name (codes "b") 0) ∷ []) = one (an_atom of_name) in
+    let a : AreData 1 (placed p (token.Name (codes "a")) ∷ []) (At p (Name (codes "a") 0) ∷ []) = one (an_atom of_name) in
+    let b : AreData 0 (placed p (token.Name (codes "b")) ∷ []) (At p (Name (codes "b") 0) ∷ []) = one (an_atom of_name) in
     one (a_dotted_list {p = p} p p a (λ e. cc) (a_list {p = p} p b))
 
 quoted_spelled : (p : Place) → AreData 2 (row p quoted_row) (quoted_data p)
 quoted_spelled p = more_data (a_mark {p = p} {m = Quote} (a_vector {p = p} p (one (an_atom {p = p} (of_fix {n = pos 1}))))) (one (an_atom {p = p} (of_bool {b = true})))
 
 -- a list is begun
-begun : (p : Place) → Runs 1 nothing (at p token.Open ∷ []) (record { finished = []; frames = InList p [] ∷ [] })
+begun : (p : Place) → Runs 1 nothing (placed p token.Open ∷ []) (record { finished = []; frames = InList p [] ∷ [] })
 begun p = next (begin_step refl (omega arith) begins_list) done
 
 no_dot : {l : ℕ} {ds : List Tree} {fs : List Frame} {p q : Place} {s : State} → Step l ds (InList q [] ∷ fs) p token.Dot s → ⊥
@@ -47,33 +47,33 @@ one_level : {ds : List Tree} {f : Frame} {p : Place} {s : State} → Step 1 ds (
 one_level (begin_step takes low b) = omega arith
 one_level (atom_step takes a) = elim a [ ]
 
-one_level_row : (p : Place) → CanGoOn 1 (at p token.Open ∷ at p token.Open ∷ []) → ⊥
-one_level_row p c = one_level (go_on_steps {ts = at p token.Open ∷ []} p token.Open (begun p) c).step
+one_level_row : (p : Place) → CanGoOn 1 (placed p token.Open ∷ placed p token.Open ∷ []) → ⊥
+one_level_row p c = one_level (go_on_steps {ts = placed p token.Open ∷ []} p token.Open (begun p) c).step
 
-joined_front : (p : Place) → Runs 1 nothing (at p token.Open ∷ at p (token.Name (codes "a")) ∷ at p token.Dot ∷ []) (record { finished = []; frames = AfterDot p (At p (Name (codes "a") 0) ∷ []) ∷ [] })
+joined_front : (p : Place) → Runs 1 nothing (placed p token.Open ∷ placed p (token.Name (codes "a")) ∷ placed p token.Dot ∷ []) (record { finished = []; frames = AfterDot p (At p (Name (codes "a") 0) ∷ []) ∷ [] })
 joined_front p = next (begin_step refl (omega arith) begins_list) (next (atom_step refl of_name) (next (dot_step (λ e. cc)) done))
 
 joined_deep_row : (p : Place) → CanGoOn 1 (row p joined_row) → ⊥
 joined_deep_row p c =
-    let front = at p token.Open ∷ at p (token.Name (codes "a")) ∷ at p token.Dot ∷ [] in
-    one_level (go_on_steps {ts = front} p token.Open (joined_front p) (shorter (front ++ at p token.Open ∷ []) (at p (token.Name (codes "b")) ∷ at p token.Close ∷ at p token.Close ∷ []) c)).step
+    let front = placed p token.Open ∷ placed p (token.Name (codes "a")) ∷ placed p token.Dot ∷ [] in
+    one_level (go_on_steps {ts = front} p token.Open (joined_front p) (shorter (front ++ placed p token.Open ∷ []) (placed p (token.Name (codes "b")) ∷ placed p token.Close ∷ placed p token.Close ∷ []) c)).step
 
-no_first_row : (p : Place) → CanGoOnSomehow (at p token.Open ∷ at p token.Dot ∷ []) → ⊥
-no_first_row p c = no_dot (go_on_steps {ts = at p token.Open ∷ []} p token.Dot (begun p) c.1).step
+no_first_row : (p : Place) → CanGoOnSomehow (placed p token.Open ∷ placed p token.Dot ∷ []) → ⊥
+no_first_row p c = no_dot (go_on_steps {ts = placed p token.Open ∷ []} p token.Dot (begun p) c.1).step
 
-no_opening_row : (p : Place) → CanGoOnSomehow (at p token.Close ∷ []) → ⊥
+no_opening_row : (p : Place) → CanGoOnSomehow (placed p token.Close ∷ []) → ⊥
 no_opening_row p c = no_close (go_on_steps {k = 0} {ts = []} p token.Close done c.1).step
 
-no_datum_row : (p : Place) (m : Mark) → CanGoOnSomehow (at p (token.Mark m) ∷ at p token.Close ∷ []) → ⊥
+no_datum_row : (p : Place) (m : Mark) → CanGoOnSomehow (placed p (token.Mark m) ∷ placed p token.Close ∷ []) → ⊥
 no_datum_row p m c =
-    let run : Runs 1 nothing (at p (token.Mark m) ∷ []) (record { finished = []; frames = InMark p m ∷ [] }) = next (begin_step refl (omega arith) begins_mark) done in
-    mark_not_closed (go_on_steps {ts = at p (token.Mark m) ∷ []} p token.Close run c.1).step
+    let run : Runs 1 nothing (placed p (token.Mark m) ∷ []) (record { finished = []; frames = InMark p m ∷ [] }) = next (begin_step refl (omega arith) begins_mark) done in
+    mark_not_closed (go_on_steps {ts = placed p (token.Mark m) ∷ []} p token.Close run c.1).step
 
-two_levels_row : (p : Place) → CanGoOn 2 (at p token.Open ∷ at p token.Open ∷ [])
-two_levels_row p = record { rest = at p token.Close ∷ at p token.Close ∷ []; elements = _; spelled = one (a_list {p = p} p (one (a_list {p = p} p (no_data {n = 0})))) }
+two_levels_row : (p : Place) → CanGoOn 2 (placed p token.Open ∷ placed p token.Open ∷ [])
+two_levels_row p = record { rest = placed p token.Close ∷ placed p token.Close ∷ []; elements = _; spelled = one (a_list {p = p} p (one (a_list {p = p} p (no_data {n = 0})))) }
 
-opened_last_row : (p q r s : Place) → OpenedLast (at p token.Open ∷ at q token.OpenVector ∷ at r token.Open ∷ at s token.Close ∷ []) q
-opened_last_row p q r s = record { front = at p token.Open ∷ []; opening = token.OpenVector; inside = at r token.Open ∷ at s token.Close ∷ []; is = refl; opens = refl; balanced = closed s refl no_bracket no_bracket }
+opened_last_row : (p q r s : Place) → OpenedLast (placed p token.Open ∷ placed q token.OpenVector ∷ placed r token.Open ∷ placed s token.Close ∷ []) q
+opened_last_row p q r s = record { front = placed p token.Open ∷ []; opening = token.OpenVector; inside = placed r token.Open ∷ placed s token.Close ∷ []; is = refl; opens = refl; balanced = closed s refl no_bracket no_bracket }
 
 pub returns : goal.returns
 returns c = record {
