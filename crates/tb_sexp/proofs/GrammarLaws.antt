@@ -37,7 +37,7 @@ pub one_state : (ts : List Placed) (s r : State) → Reaches ts s → Reaches ts
 one_state ts s r x y = runs_same (reaches_runs x) (reaches_runs y)
 
 -- a limit that is higher
-runs_higher : {l : ℕ} {ts : List Placed} {s z : State} (k : ℕ) → l ≤ k → Runs l s ts z → Runs k s ts z
+pub runs_higher : {l : ℕ} {ts : List Placed} {s z : State} (k : ℕ) → l ≤ k → Runs l s ts z → Runs k s ts z
 runs_higher k le done = done
 runs_higher k le (next step run) = next (step_higher k le step) (runs_higher k le run)
 

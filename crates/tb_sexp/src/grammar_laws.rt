@@ -1,4 +1,4 @@
-ghost use Rattle.std.specs.Prelude.{◌≡◌, ◌≢◌, ◌⊎◌, ℕ, true, false, List, [], ◌∷◌, ◌++◌, length, Ok, Err};
+ghost use Rattle.std.specs.Prelude.{◌≡◌, ◌≢◌, ◌≤◌, ◌⊎◌, ℕ, true, false, List, [], ◌∷◌, ◌++◌, length, Ok, Err};
 ghost use Rattle.tb_prim.specs.declared.place.Place.{Place};
 ghost use Rattle.tb_sexp.specs.declared.refusal.ReadRefusal.{ReadRefusal};
 ghost use Rattle.tb_sexp.specs.declared.refusal.ReadRefusal.TheVariants as refusal;
@@ -8,7 +8,7 @@ ghost use Rattle.tb_sexp.specs.declared.token.Token.TheVariants as token;
 ghost use Rattle.tb_sexp.specs.Bytes.{blanks};
 ghost use Rattle.tb_sexp.specs.Frames.{Frame, InMark, State};
 ghost use Rattle.tb_sexp.specs.Grammar.{AreData, Atom, CanGoOn, CanGoOnSomehow, EndsWith, IsLastMark, IsOpenAt, OpenedLast, Placed, Reaches, placed};
-ghost use Rattle.tb_sexp.specs.Reading.{accept, takes_datum};
+ghost use Rattle.tb_sexp.specs.Reading.{accept, finish, takes_datum};
 ghost use Rattle.tb_sexp.specs.Tree.{Shape, Tree};
 
 /// Where no list, vector or mark is open, the tokens so far spell the data so far.
@@ -39,6 +39,13 @@ pub fn refusals_of_tokens()
     ensures accepted { (ts : List Placed) (s : State) (p : Place) (t : Token) (rest : List ℕ) → Reaches ts s → CanGoOn 256 (ts ++ placed p t ∷ []) → (r : State) × (accept s p t rest ≡ Ok r) }
 {}
 
+/// And a token is refused so wherever it is so: the answer to a token is what the rows say.
+pub fn tokens_that_are_refused()
+    ensures everywhere { (ts : List Placed) (s : State) (p : Place) (t : Token) (rest : List ℕ) → Reaches ts s → (CanGoOnSomehow (ts ++ placed p t ∷ []) → ⊥) → accept s p t rest ≡ Err (refusal.Syntax p) }
+    ensures too_deep { (ts : List Placed) (s : State) (p : Place) (t : Token) (rest : List ℕ) → Reaches ts s → CanGoOnSomehow (ts ++ placed p t ∷ []) → (CanGoOn 256 (ts ++ placed p t ∷ []) → ⊥) → ((m : Mark) → t ≡ token.Mark m → blanks rest ≢ length rest) → accept s p t rest ≡ Err (refusal.TooDeep p) }
+    ensures last_mark { (ts : List Placed) (s : State) (p : Place) (m : Mark) (rest : List ℕ) → Reaches ts s → (CanGoOn 256 (ts ++ placed p (token.Mark m) ∷ []) → ⊥) → blanks rest ≡ length rest → accept s p (token.Mark m) rest ≡ Err (refusal.Syntax p) }
+{}
+
 /// A datum can stand behind the tokens where the row can go on with an atom.
 pub fn atoms_stand_where_data_do()
     ensures taken { (ts : List Placed) (s : State) (p : Place) (t : Token) (shape : Shape) → Reaches ts s → takes_datum s.frames ≡ true → Atom t shape → CanGoOn 256 (ts ++ placed p t ∷ []) }
@@ -51,4 +58,20 @@ pub fn rows_that_end_early()
     ensures mark { (ts : List Placed) (s : State) (q : Place) (m : Mark) (fs : List Frame) → Reaches ts s → s.frames ≡ InMark q m ∷ fs → EndsWith ts (placed q (token.Mark m)) × ((n : ℕ) (ds : List Tree) → AreData n ts ds → ⊥) }
     ensures bracket { (ts : List Placed) (s : State) (q : Place) (f : Frame) (fs : List Frame) → Reaches ts s → s.frames ≡ f ∷ fs → IsOpenAt f q → OpenedLast ts q × ((p : Place) (m : Mark) → EndsWith ts (placed p (token.Mark m)) → ⊥) × ((n : ℕ) (ds : List Tree) → AreData n ts ds → ⊥) }
     ensures one { (ts : List Placed) (q r : Place) → OpenedLast ts q → OpenedLast ts r → q ≡ r }
+{}
+
+/// What reading answers at the end of the text: the data that the tokens spell; or, where they spell none, `Syntax` at
+/// the mark that is the last token, and else `Unclosed` at the list or vector that was opened last.
+pub fn answers_at_the_end()
+    ensures whole { (ts : List Placed) (s : State) (ds : List Tree) → Reaches ts s → finish s.finished s.frames ≡ Ok ds → AreData 256 ts ds }
+    ensures only { (ts : List Placed) (s : State) (ds : List Tree) → Reaches ts s → AreData 256 ts ds → finish s.finished s.frames ≡ Ok ds }
+    ensures mark { (ts : List Placed) (s : State) (q : Place) → Reaches ts s → finish s.finished s.frames ≡ Err (refusal.Syntax q) → (m : Mark) × EndsWith ts (placed q (token.Mark m)) × ((n : ℕ) (ds : List Tree) → AreData n ts ds → ⊥) }
+    ensures bracket { (ts : List Placed) (s : State) (q : Place) → Reaches ts s → finish s.finished s.frames ≡ Err (refusal.Unclosed q) → OpenedLast ts q × ((p : Place) (m : Mark) → EndsWith ts (placed p (token.Mark m)) → ⊥) × ((n : ℕ) (ds : List Tree) → AreData n ts ds → ⊥) }
+    ensures no_other { (ts : List Placed) (s : State) (e : ReadRefusal) → Reaches ts s → finish s.finished s.frames ≡ Err e → (q : Place) × ((e ≡ refusal.Syntax q) ⊎ (e ≡ refusal.Unclosed q)) }
+{}
+
+/// What is spelled with some levels is spelled with more.
+pub fn more_levels_spell_more()
+    ensures spelled { (n m : ℕ) (ts : List Placed) (ds : List Tree) → n ≤ m → AreData n ts ds → AreData m ts ds }
+    ensures can { (n m : ℕ) (ts : List Placed) → n ≤ m → CanGoOn n ts → CanGoOn m ts }
 {}

@@ -20,8 +20,9 @@ mod token;
 pub use datum::{Datum, DatumRow, Node};
 pub use grammar_examples::worked_rows;
 pub use grammar_laws::{
-    atoms_stand_where_data_do, reached_data_are_spelled, reached_rows_can_go_on,
-    refusals_of_tokens, rows_that_end_early, spelled_data_are_reached,
+    answers_at_the_end, atoms_stand_where_data_do, more_levels_spell_more,
+    reached_data_are_spelled, reached_rows_can_go_on, refusals_of_tokens, rows_that_end_early,
+    spelled_data_are_reached, tokens_that_are_refused,
 };
 pub use printer::print_datum;
 pub use reader::read_all;
