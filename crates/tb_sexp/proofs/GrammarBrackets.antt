@@ -1,13 +1,13 @@
 -- Brackets: what spells data is balanced, and one place at most is that of the list or vector opened last.
-use Rattle.std.proofs.Common.{◌≡◌, ◌≢◌, ℕ, suc, Bool, true, false, List, [], ◌∷◌, ◌++◌, refl, sym, ap, ◌∙◌, subst, append_assoc, append-nil}
+use Rattle.std.proofs.Common.{◌≡◌, ℕ, Bool, true, false, List, [], ◌∷◌, ◌++◌, refl, sym, ap, ◌∙◌, subst, append_assoc}
 use Rattle.tb_prim.specs.declared.place.Place.{Place}
 use Rattle.tb_sexp.specs.declared.token.Mark.{Mark}
 use Rattle.tb_sexp.specs.declared.token.Token.{Token}
 use Rattle.tb_sexp.specs.declared.token.Token.TheVariants as token
-use Rattle.tb_sexp.specs.Frames.{Frame, InMark, InList, AfterDot, AfterTail, InVector}
+use Rattle.tb_sexp.specs.Frames.{Frame, InMark}
 use Rattle.tb_sexp.specs.Grammar.{Placed, placed, Atom, of_bool, of_fix, of_char, of_str, of_name, IsDatum, an_atom, a_mark, a_list, a_dotted_list, a_vector, AreData, no_data, more_data, is_opening, is_bracket, Balanced, no_bracket, other_token, closed, OpenedLast, EndsWith, IsOpenAt, in_list, after_dot, after_tail, in_vector}
 use Rattle.tb_sexp.specs.Tree.{Tree, Shape}
-use Rattle.tb_sexp.proofs.GrammarOpens.{Opens, outside, behind_mark, inside_list, behind_dot, behind_tail, inside_vector}
+use Rattle.tb_sexp.proofs.GrammarOpens.{Opens, behind_mark, inside_list, behind_dot, behind_tail, inside_vector}
 
 balanced_then : {ts us : List Placed} → Balanced ts → Balanced us → Balanced (ts ++ us)
 balanced_then no_bracket more = more

@@ -1,5 +1,5 @@
 -- What each answer says about the row of tokens, and each row about the answer.
-use Rattle.std.proofs.Common.{◌≡◌, ◌≢◌, ◌≤◌, ◌⊎◌, inl, inr, ℕ, List, [], ◌∷◌, ◌++◌, length, refl, sym, ap, ◌∙◌, subst}
+use Rattle.std.proofs.Common.{◌≡◌, ◌≢◌, ◌≤◌, ◌⊎◌, inl, inr, ℕ, List, [], ◌∷◌, ◌++◌, length, refl, ap, ◌∙◌, subst}
 use Rattle.std.specs.Prelude.{Result, Ok, Err}
 use Rattle.tb_prim.specs.declared.place.Place.{Place}
 use Rattle.tb_sexp.specs.declared.token.Mark.{Mark}
@@ -9,7 +9,7 @@ use Rattle.tb_sexp.specs.declared.refusal.ReadRefusal.{ReadRefusal}
 use Rattle.tb_sexp.specs.declared.refusal.ReadRefusal.TheVariants.{Syntax, Unclosed, TooDeep}
 use Rattle.tb_sexp.specs.Bytes.{blanks}
 use Rattle.tb_sexp.specs.Frames.{Frame, InMark, InList, AfterDot, AfterTail, InVector, State}
-use Rattle.tb_sexp.specs.Grammar.{Placed, placed, AreData, CanGoOn, CanGoOnSomehow, Reaches, one_more, OpenedLast, EndsWith, IsOpenAt, in_list, after_dot, after_tail, in_vector, IsLastMark}
+use Rattle.tb_sexp.specs.Grammar.{Placed, placed, AreData, CanGoOn, CanGoOnSomehow, Reaches, one_more, OpenedLast, EndsWith, in_list, after_dot, after_tail, in_vector}
 use Rattle.tb_sexp.specs.Reading.{accept, finish}
 use Rattle.tb_sexp.specs.Tree.{Tree}
 use Rattle.tb_sexp.proofs.GrammarOpens.{run_whole, data_run, go_on_runs, run_goes_on}

@@ -1,6 +1,6 @@
 -- The states that reading comes to are those of the fronts of rows that spell data.
-use Rattle.std.proofs.Common.{◌≡◌, ◌≢◌, ◌⊎◌, inl, inr, ℕ, suc, ◌+◌, ◌<◌, ◌≤◌, Bool, true, false, List, [], ◌∷◌, ◌++◌, length, refl, sym, ap, ◌∙◌, subst, arith, append_assoc, append-nil}
-use Rattle.std.specs.Prelude.{Result, Ok, Err}
+use Rattle.std.proofs.Common.{◌≡◌, ◌≢◌, ◌⊎◌, inl, inr, ℕ, suc, ◌≤◌, true, false, List, [], ◌∷◌, ◌++◌, length, refl, sym, ap, ◌∙◌, subst, arith}
+use Rattle.std.specs.Prelude.{Ok, Err}
 use Rattle.tb_prim.specs.declared.place.Place.{Place}
 use Rattle.tb_sexp.specs.declared.token.Mark.{Mark}
 use Rattle.tb_sexp.specs.declared.token.Token.{Token}
@@ -13,9 +13,9 @@ use Rattle.tb_sexp.specs.Grammar.{Placed, placed, Atom, an_atom, AreData, CanGoO
 use Rattle.tb_sexp.specs.Reading.{takes_datum, accept}
 use Rattle.tb_sexp.specs.Runs.{nothing}
 use Rattle.tb_sexp.specs.Tree.{Tree, Shape}
-use Rattle.tb_sexp.proofs.GrammarSteps.{Begins, begins_mark, Step, begin_step, atom_step, step_higher, Answer, goes, wrong, wrong_mark, deep, answer, atom_only}
+use Rattle.tb_sexp.proofs.GrammarSteps.{Begins, begins_mark, Step, begin_step, atom_step, step_higher, Answer, wrong, wrong_mark, deep, answer, atom_only}
 use Rattle.tb_sexp.proofs.GrammarRuns.{Runs, done, next, runs_then, runs_same, reaches_runs, runs_reach, parted, last_step, full_step, accept_step}
-use Rattle.tb_sexp.proofs.GrammarOpens.{Opens, OpensState, run_opens, run_goes_on, run_whole, data_run, go_on_runs, go_on_steps, goes_on_with}
+use Rattle.tb_sexp.proofs.GrammarOpens.{Opens, run_opens, run_goes_on, run_whole, data_run, go_on_runs, go_on_steps, goes_on_with}
 use Rattle.tb_sexp.proofs.GrammarBrackets.{mark_at_end, opened_at}
 
 pub whole : (ts : List Placed) (s : State) → Reaches ts s → s.frames ≡ [] → AreData 256 ts s.finished

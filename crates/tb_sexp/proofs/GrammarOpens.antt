@@ -1,17 +1,17 @@
 -- Which tokens made the data so far, and each list, vector and mark that is open.
-use Rattle.std.proofs.Common.{◌≡◌, ◌≢◌, ℕ, zero, suc, ◌+◌, ◌<◌, ◌≤◌, Bool, true, false, List, [], ◌∷◌, ◌++◌, length, refl, sym, ap, ◌∙◌, subst, arith, append_assoc, append-nil}
+use Rattle.std.proofs.Common.{◌≡◌, ◌≢◌, ℕ, zero, suc, ◌+◌, ◌<◌, Bool, true, false, List, [], ◌∷◌, ◌++◌, length, refl, sym, ◌∙◌, subst, arith, append_assoc, append-nil}
 use Rattle.tb_prim.specs.declared.place.Place.{Place}
 use Rattle.tb_sexp.specs.declared.token.Mark.{Mark}
 use Rattle.tb_sexp.specs.declared.token.Token.{Token}
 use Rattle.tb_sexp.specs.declared.token.Token.TheVariants as token
-use Rattle.tb_sexp.specs.Frames.{Frame, InMark, InList, AfterDot, AfterTail, InVector, State, list_of, dotted, marked, give}
-use Rattle.tb_sexp.specs.Grammar.{Placed, placed, Atom, of_bool, IsDatum, an_atom, a_mark, a_list, a_dotted_list, a_vector, AreData, no_data, more_data, CanGoOn}
+use Rattle.tb_sexp.specs.Frames.{Frame, InMark, InList, AfterDot, AfterTail, InVector, State, list_of, dotted, give}
+use Rattle.tb_sexp.specs.Grammar.{Placed, placed, of_bool, IsDatum, an_atom, a_mark, a_list, a_dotted_list, a_vector, AreData, no_data, more_data, CanGoOn}
 use Rattle.tb_sexp.specs.Reading.{takes_datum}
 use Rattle.tb_sexp.specs.Runs.{nothing}
-use Rattle.tb_sexp.specs.Tree.{Tree, At, Shape, Vector}
+use Rattle.tb_sexp.specs.Tree.{Tree, At, Vector}
 use Rattle.tb_sexp.specs.View.{trees}
 use Rattle.tb_sexp.proofs.GrammarSteps.{Begins, begins_list, begins_vector, begins_mark, Step, begin_step, atom_step, list_step, dotted_step, vector_step, dot_step}
-use Rattle.tb_sexp.proofs.GrammarRuns.{Runs, done, next, Collects, runs_then, data_runs, parted, last_step, runs_same}
+use Rattle.tb_sexp.proofs.GrammarRuns.{Runs, done, next, Collects, data_runs, parted, last_step, runs_same}
 
 -- the tokens that made the data and the frames, where `n` levels are left
 pub data Opens : ℕ → List Placed → List Tree → List Frame → Type 0 where

@@ -1,16 +1,14 @@
 -- Runs of tokens: each is determined, and the tokens of a datum give it to what waits for it.
-use Rattle.std.proofs.Common.{◌≡◌, ◌≢◌, ℕ, suc, ◌+◌, ◌<◌, ◌≤◌, Bool, true, false, cond, List, [], ◌∷◌, ◌++◌, length, refl, sym, ap, ◌∙◌, subst, arith, append_assoc, append-nil}
-use Rattle.std.specs.Prelude.{Result, Ok, Err}
+use Rattle.std.proofs.Common.{◌≡◌, ℕ, suc, ◌+◌, ◌≤◌, true, List, [], ◌∷◌, ◌++◌, length, refl, sym, ap, subst, arith, append_assoc, append-nil}
+use Rattle.std.specs.Prelude.{Result, Ok}
 use Rattle.tb_prim.specs.declared.place.Place.{Place}
 use Rattle.tb_sexp.specs.declared.token.Token.{Token}
-use Rattle.tb_sexp.specs.declared.token.Token.TheVariants as token
 use Rattle.tb_sexp.specs.declared.refusal.ReadRefusal.{ReadRefusal}
-use Rattle.tb_sexp.specs.Frames.{Frame, InMark, InList, AfterDot, AfterTail, InVector, State, list_of, dotted, marked, give}
-use Rattle.tb_sexp.specs.Grammar.{Placed, placed, Atom, of_bool, of_fix, of_char, of_str, of_name, IsDatum, an_atom, a_mark, a_list, a_dotted_list, a_vector, AreData, no_data, more_data, CanGoOn, Reaches, start, one_more}
+use Rattle.tb_sexp.specs.Frames.{Frame, InMark, InList, AfterDot, InVector, State, give}
+use Rattle.tb_sexp.specs.Grammar.{Placed, placed, Atom, of_bool, of_fix, of_char, of_str, of_name, IsDatum, an_atom, a_mark, a_list, a_dotted_list, a_vector, AreData, no_data, more_data, Reaches, start, one_more}
 use Rattle.tb_sexp.specs.Reading.{takes_datum, accept}
 use Rattle.tb_sexp.specs.Runs.{nothing}
-use Rattle.tb_sexp.specs.Tree.{Tree, At, Shape, Vector}
-use Rattle.tb_sexp.specs.View.{trees}
+use Rattle.tb_sexp.specs.Tree.{Tree, At, Shape}
 use Rattle.tb_sexp.proofs.GrammarSteps.{Begins, begins_list, begins_vector, begins_mark, Step, begin_step, atom_step, list_step, dotted_step, vector_step, dot_step, Answer, goes, wrong, wrong_mark, deep, answer}
 
 same_frame : {p : Place} {t : Token} {f g : Frame} → Begins p t f → Begins p t g → f ≡ g

@@ -1,5 +1,5 @@
 -- Worked rows of tokens, all at one place.
-use Rattle.std.specs.Prelude.{ℕ, List, [], ◌∷◌, codes, true, pos}
+use Rattle.std.specs.Prelude.{List, [], ◌∷◌, codes, true, pos}
 use Rattle.tb_prim.specs.declared.place.Place.{Place}
 use Rattle.tb_sexp.specs.declared.token.Mark.TheVariants.{Quote}
 use Rattle.tb_sexp.specs.declared.token.Token.{Token}

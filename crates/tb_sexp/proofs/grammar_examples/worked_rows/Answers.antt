@@ -1,17 +1,16 @@
-use Rattle.std.proofs.Common.{◌≡◌, ◌≢◌, ℕ, true, false, Bool, List, [], ◌∷◌, ◌++◌, codes, pos, refl, arith}
+use Rattle.std.proofs.Common.{ℕ, true, List, [], ◌∷◌, ◌++◌, codes, pos, refl, arith}
 use Rattle.tb_prim.specs.declared.place.Place.{Place}
 use Rattle.tb_sexp.specs.declared.token.Mark.{Mark}
 use Rattle.tb_sexp.specs.declared.token.Mark.TheVariants.{Quote}
-use Rattle.tb_sexp.specs.declared.token.Token.{Token}
 use Rattle.tb_sexp.specs.declared.token.Token.TheVariants as token
 use Rattle.tb_sexp.specs.Frames.{Frame, InMark, InList, AfterDot, State}
-use Rattle.tb_sexp.specs.Grammar.{Placed, placed, Atom, of_bool, of_fix, of_name, IsDatum, an_atom, a_mark, a_list, a_dotted_list, a_vector, AreData, no_data, more_data, CanGoOn, CanGoOnSomehow, OpenedLast, Balanced, no_bracket, other_token, closed}
+use Rattle.tb_sexp.specs.Grammar.{Placed, placed, of_bool, of_fix, of_name, IsDatum, an_atom, a_mark, a_list, a_dotted_list, a_vector, AreData, no_data, more_data, CanGoOn, CanGoOnSomehow, OpenedLast, no_bracket, closed}
 use Rattle.tb_sexp.specs.GrammarRows.{row, joined_row, joined_data, quoted_row, quoted_data}
 use Rattle.tb_sexp.specs.Runs.{nothing}
 use Rattle.tb_sexp.specs.Tree.{Tree, At, Name}
-use Rattle.tb_sexp.proofs.GrammarSteps.{Begins, begins_list, begins_mark, Step, begin_step, atom_step, dot_step}
-use Rattle.tb_sexp.proofs.GrammarRuns.{Runs, done, next, last_step}
-use Rattle.tb_sexp.proofs.GrammarOpens.{RunsOn, go_on_runs, go_on_steps, shorter}
+use Rattle.tb_sexp.proofs.GrammarSteps.{begins_list, begins_mark, Step, begin_step, atom_step, dot_step}
+use Rattle.tb_sexp.proofs.GrammarRuns.{Runs, done, next}
+use Rattle.tb_sexp.proofs.GrammarOpens.{go_on_steps, shorter}
 use Rattle.tb_sexp.proofs.grammar_examples.worked_rows.Goals as goal
 
 one : {n : ℕ} {ts : List Placed} {d : Tree} → IsDatum n ts d → AreData n (ts ++ []) (d ∷ [])
