@@ -1,3 +1,4 @@
+pub mod Blanks
 pub mod Bytes
 pub mod Lexing
 pub mod Numbers
@@ -8,3 +9,4 @@ pub mod View
 pub mod Frames
 pub mod Reading
 pub mod Runs
+pub mod Tokens

@@ -4,6 +4,7 @@
 mod atoms;
 mod datum;
 mod frames;
+pub mod laws;
 mod lexer;
 mod numbers;
 mod parser;
