@@ -160,8 +160,6 @@ unsigned_decimal d ds h clear =
           (and_left (is_initial d) (list_all is_subsequent ds) (decimal_initial d h))));
     }
 
-sign_plain : (b : ℕ) → b ≡ 43 → IsPlain b
-sign_plain b e = subst IsPlain (sym e) (refl, (refl, (refl, (refl, (refl, (refl, (refl, tt)))))))
 
 signed_decimal : {s : List ℕ} {negative : Bool} → Sign s negative → (d : ℕ) (ds : List ℕ) → is_digit_of 10 d ≡ true → Clear (d ∷ ds) → IsDecimal (s ++ d ∷ ds)
 signed_decimal unsigned d ds h clear = unsigned_decimal d ds h clear
@@ -187,7 +185,7 @@ prefixed_only {s = s} (based {b} {base} e) sign ds rest h ends =
 
 pub numeral_only : {w ds : List ℕ} {base : ℕ} {negative : Bool} → IsNumeral w base negative ds → (rest : List ℕ) → EndsWord rest →
     token_at (w ++ rest) ≡ sized (fixnum_of negative (value_of base ds)) (length w)
-numeral_only (numeral {p} {s} {ds} {base} {negative} prefix sign h) rest ends =
+numeral_only (numeral {prefix = p} {sign = s} {ds} {base} {negative} prefix sign h) rest ends =
     let digits = digits_are base ds h in
     let parts = signed_digits base (prefix_small prefix) sign ds digits in
     prefixed_only prefix sign ds rest digits ends
