@@ -1,8 +1,8 @@
 -- Whitespace and comments: what is passed is blank, and what is blank is passed.
-use Rattle.std.proofs.Common.{◌≡◌, ◌≢◌, ℕ, suc, Bool, true, false, cond, not, List, [], ◌∷◌, ◌++◌, length, take, drop, refl, sym, ap, ◌∙◌, subst, ⊎_elim, inl, inr, ◌+◌, ◌⊎◌, arith, append_assoc, append-nil, length-append, drop_of_length-le}
-use Rattle.std.specs.Prelude.{◌==◌, ◌||◌, ◌&&◌}
+use Rattle.std.proofs.Common.{◌≡◌, ℕ, suc, Bool, true, false, cond, not, List, [], ◌∷◌, ◌++◌, length, take, drop, refl, sym, ap, ◌∙◌, subst, ⊎_elim, inl, inr, ◌+◌, ◌⊎◌, arith, append_assoc, append-nil, length-append, drop_of_length-le}
+use Rattle.std.specs.Prelude.{◌==◌}
 use Rattle.std.specs.List.{list_all}
-use Rattle.std.proofs.lemmas.Bool.{false≢true, both_ways, eqb-true, eqb-false, ne_eqb, eq-eqb, and_parts, and_from, cond_both, cond-true, cond-false, not-true, not_from_false}
+use Rattle.std.proofs.lemmas.Bool.{eqb-true, eqb-false, ne_eqb, and_parts, and_from, cond_both, cond-true, cond-false, not_from_false}
 use Rattle.tb_sexp.specs.Blanks.{IsLine, Blank, nothing, whitespace, comment, BlankEnd, closed, open_comment, IsNoBlank}
 use Rattle.tb_sexp.specs.Bytes.{is_whitespace, blanks_in, blanks}
 use Rattle.tb_sexp.proofs.TokensBytes.{whitespace_of}

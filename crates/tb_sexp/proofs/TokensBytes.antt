@@ -1,15 +1,11 @@
 -- The kinds of bytes apart from one another, and runs of bytes without a delimiter.
-use Rattle.std.proofs.Common.{◌≡◌, ◌≢◌, ℕ, suc, ◌+◌, ◌<◌, ◌≤◌, Bool, true, false, cond, not, eqb, ltb, List, [], ◌∷◌, ◌++◌, map, length, take, drop, Option, Some, None, refl, sym, ap, ◌∙◌, subst, ⊎_elim, inl, inr, arith}
-use Rattle.std.specs.Prelude.{◌==◌, ◌||◌, ◌&&◌, nat_lt, codes, bytes_eq}
-use Rattle.std.specs.Char.{to_ascii_lowercase, is_ascii_alphabetic, is_ascii_digit}
+use Rattle.std.proofs.Common.{◌≡◌, ℕ, suc, ◌≤◌, Bool, true, false, List, [], ◌∷◌, ◌++◌, length, take, drop, refl, ap, ◌∙◌, subst, ⊎_elim}
+use Rattle.std.specs.Prelude.{◌==◌, nat_lt, codes}
 use Rattle.std.specs.List.{list_any, list_all}
-use Rattle.std.proofs.lemmas.Bool.{false≢true, both_ways, eqb-true, ne_eqb, le-ltb, ltb-true, or_cases, or_left, or_right, and_parts, cond_both, cond-true, cond-false, false_from_ne_true, true_from_ne_false, cases_Bool, agree_below, agree_below_at}
-use Rattle.std.proofs.lemmas.Bool.Decides.{nat_tests}
-use Rattle.std.proofs.lemmas.Slice.Eq.{bytes_eq-Decides}
-use Rattle.std.proofs.lemmas.Option.{same_Some}
+use Rattle.std.proofs.lemmas.Bool.{false≢true, both_ways, eqb-true, ne_eqb, le-ltb, or_cases, and_parts, cond_both, cond-true, cond-false, false_from_ne_true}
 use Rattle.std.proofs.Math.Seq.{take-append_seam}
-use Rattle.tb_sexp.specs.Bytes.{is_whitespace, is_delimiter, is_initial, is_subsequent, is_identifier, is_word, run_length}
-use Rattle.tb_sexp.specs.Lexing.{base_of, folded, run}
+use Rattle.tb_sexp.specs.Bytes.{is_whitespace, is_delimiter, is_initial, is_subsequent, run_length}
+use Rattle.tb_sexp.specs.Lexing.{run}
 use Rattle.tb_sexp.specs.Numbers.{digit_of}
 use Rattle.tb_sexp.specs.Tokens.{EndsWord}
 

@@ -1,18 +1,16 @@
 -- Numbers are read whole, and so is what stands behind `#` up to a delimiter.
-use Rattle.std.proofs.Common.{◌≡◌, ◌≢◌, ℕ, suc, ◌+◌, ◌<◌, ◌≤◌, Bool, true, false, cond, not, List, [], ◌∷◌, ◌++◌, map, length, take, drop, Option, Some, None, Result, Ok, Err, refl, sym, ap, ◌∙◌, subst, ⊎_elim, add-one, arith}
+use Rattle.std.proofs.Common.{◌≡◌, ℕ, suc, ◌+◌, ◌<◌, ◌≤◌, Bool, true, false, cond, List, [], ◌∷◌, ◌++◌, length, Some, None, Ok, Err, refl, sym, ap, ◌∙◌, subst, arith}
 use Rattle.std.specs.Prelude.{◌==◌, ◌||◌, ◌&&◌, nat_lt, codes, bytes_eq}
 use Rattle.std.specs.Char.{to_ascii_lowercase}
-use Rattle.std.specs.List.{list_any, list_all}
-use Rattle.std.proofs.lemmas.Bool.{false≢true, both_ways, eqb-true, ne_eqb, le-ltb, ltb-true, lt-ltb, or_cases, or_from, and_parts, and_from, and_left, and_right, cond_both, cond-true, cond-false, false_from_ne_true, agree_below_at, agree_below}
+use Rattle.std.specs.List.{list_all}
+use Rattle.std.proofs.lemmas.Bool.{false≢true, both_ways, ne_eqb, le-ltb, ltb-true, or_from, and_parts, and_from, and_left, cond_both, cond-true, cond-false, false_from_ne_true, agree_below_at}
 use Rattle.std.proofs.lemmas.Bool.Decides.{nat_tests}
 use Rattle.std.proofs.lemmas.Option.{same_Some}
-use Rattle.tb_sexp.specs.declared.token.Token.{Token}
 use Rattle.tb_sexp.specs.declared.token.Token.TheVariants as token
-use Rattle.tb_sexp.specs.declared.token.Fault.{Fault}
-use Rattle.tb_sexp.specs.declared.token.Fault.TheVariants.{Syntax, LongName, BigNumber, LongString, BadEscape, OpenString}
+use Rattle.tb_sexp.specs.declared.token.Fault.TheVariants.{Syntax}
 use Rattle.tb_sexp.specs.Bytes.{is_delimiter, is_initial, is_subsequent, is_identifier, is_word, run_length}
-use Rattle.tb_sexp.specs.Lexing.{atom_of, base_of, based_of, character_at, fixnum_of, hash_at, hashed_of, name_of, number_of, run, sized, token_at, truth_of}
-use Rattle.tb_sexp.specs.Numbers.{are_digits, digit_of, digits_of, is_negative, is_number, value_of, fits_fixnum}
+use Rattle.tb_sexp.specs.Lexing.{base_of, based_of, character_at, fixnum_of, hashed_of, name_of, number_of, run, sized, token_at, truth_of}
+use Rattle.tb_sexp.specs.Numbers.{are_digits, digit_of, digits_of, is_negative, value_of}
 use Rattle.tb_sexp.specs.Tokens.{EndsWord, Prefix, decimal, based, Sign, unsigned, plus, minus, IsNumeral, numeral}
 use Rattle.tb_sexp.proofs.TokensBytes.{EachOf, delimiter_of, digit_clear, apart_by, Clear, clear_all, run_passed, run_taken}
 use Rattle.tb_sexp.proofs.TokensWords.{IsPlain, IsRun, run_only}
@@ -159,7 +157,6 @@ unsigned_decimal d ds h clear =
           (or_from (bytes_eq (d ∷ ds) (codes "...")) (is_word (d ∷ ds)) (and_left (d == 46) (bytes_eq ds (46 ∷ 46 ∷ [])) apart.1.1.0)
           (and_left (is_initial d) (list_all is_subsequent ds) (decimal_initial d h))));
     }
-
 
 signed_decimal : {s : List ℕ} {negative : Bool} → Sign s negative → (d : ℕ) (ds : List ℕ) → is_digit_of 10 d ≡ true → Clear (d ∷ ds) → IsDecimal (s ++ d ∷ ds)
 signed_decimal unsigned d ds h clear = unsigned_decimal d ds h clear

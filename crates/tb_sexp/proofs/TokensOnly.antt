@@ -1,6 +1,6 @@
 -- What spells a token is read as that token, and what is wrong is found.
-use Rattle.std.proofs.Common.{◌≡◌, ◌≢◌, ℕ, suc, ◌+◌, ◌<◌, ◌≤◌, Bool, true, false, cond, List, [], ◌∷◌, ◌++◌, map, length, take, drop, Option, Some, None, Result, Ok, Err, refl, sym, ap, ◌∙◌, subst, ⊎_elim, append_assoc, append-nil, length-append, add-one, arith}
-use Rattle.std.specs.Prelude.{◌==◌, ◌||◌, ◌&&◌, nat_lt, codes, bytes_eq}
+use Rattle.std.proofs.Common.{◌≡◌, ℕ, suc, ◌+◌, ◌≤◌, Bool, true, false, cond, List, [], ◌∷◌, ◌++◌, length, take, None, Ok, Err, refl, sym, ap, ◌∙◌, subst, append_assoc, append-nil, length-append, add-one, arith}
+use Rattle.std.specs.Prelude.{◌==◌, nat_lt, codes, bytes_eq}
 use Rattle.std.specs.Char.{to_ascii_lowercase}
 use Rattle.std.proofs.lemmas.Bool.{both_ways, lt-ltb, le-ltb, ne_eqb, eq-eqb, cond-true, cond-false, false_from_ne_true}
 use Rattle.std.proofs.lemmas.List.{length-map}
@@ -8,12 +8,12 @@ use Rattle.tb_sexp.specs.declared.token.Token.{Token}
 use Rattle.tb_sexp.specs.declared.token.Token.TheVariants as token
 use Rattle.tb_sexp.specs.declared.token.Mark.TheVariants.{Unquote, UnquoteSplicing}
 use Rattle.tb_sexp.specs.declared.token.Fault.{Fault}
-use Rattle.tb_sexp.specs.declared.token.Fault.TheVariants.{Syntax, LongName, BigNumber, LongString, BadEscape, OpenString}
-use Rattle.tb_sexp.specs.Bytes.{is_delimiter, is_identifier, run_length}
-use Rattle.tb_sexp.specs.Lexing.{atom_of, character_of, escaped_of, fixnum_of, folded, hashed_of, is_folded, name_of, named_of, on_some, sized, string_from, token_at, truth_of, base_of, based_of}
+use Rattle.tb_sexp.specs.declared.token.Fault.TheVariants.{Syntax, LongName, BigNumber, LongString, BadEscape}
+use Rattle.tb_sexp.specs.Bytes.{is_delimiter}
+use Rattle.tb_sexp.specs.Lexing.{character_of, escaped_of, folded, hashed_of, named_of, on_some, sized, string_from, token_at}
 use Rattle.tb_sexp.specs.Numbers.{value_of, signed, fits_fixnum}
-use Rattle.tb_sexp.specs.Tokens.{Characters, EndsWord, NoAt, EndsAt, IsNumeral, Spells, open_list, open_vector, close, quote, quasiquote, unquote, splicing, dot, truth, falsity, number, name, one_byte, space, newline, text, Spoiled, long_name, big_number, long_string, bad_escape, open_string, open_escape}
-use Rattle.tb_sexp.proofs.TokensBytes.{EachOf, delimiter_of, no_delimiter, Clear, run_passed, run_taken}
+use Rattle.tb_sexp.specs.Tokens.{Characters, EndsWord, NoAt, EndsAt, Spells, open_list, open_vector, close, quote, quasiquote, unquote, splicing, dot, truth, falsity, number, name, one_byte, space, newline, text, Spoiled, long_name, big_number, long_string, bad_escape, open_string, open_escape}
+use Rattle.tb_sexp.proofs.TokensBytes.{delimiter_of, Clear, run_passed, run_taken}
 use Rattle.tb_sexp.proofs.TokensNumbers.{hashed_only, numeral_only}
 use Rattle.tb_sexp.proofs.TokensStrings.{characters_long, string_put}
 use Rattle.tb_sexp.proofs.TokensWords.{run_only, identifier_only}

@@ -1,21 +1,15 @@
 -- Words up to a delimiter are read whole: identifiers and numbers.
-use Rattle.std.proofs.Common.{◌≡◌, ◌≢◌, ℕ, suc, ◌+◌, ◌<◌, ◌≤◌, Bool, true, false, cond, List, [], ◌∷◌, ◌++◌, map, length, take, drop, Option, Some, None, Result, Ok, Err, refl, sym, ap, ◌∙◌, subst, ⊎_elim, add-one, arith}
-use Rattle.std.specs.Prelude.{◌==◌, ◌||◌, ◌&&◌, nat_lt, codes, bytes_eq}
-use Rattle.std.specs.Char.{to_ascii_lowercase}
-use Rattle.std.specs.List.{list_any, list_all}
-use Rattle.std.proofs.lemmas.Bool.{false≢true, both_ways, eqb-true, ne_eqb, le-ltb, ltb-true, or_cases, or_left, or_right, or_from, and_parts, and_left, and_right, cond_both, cond-true, cond-false, false_from_ne_true, agree_below_at}
-use Rattle.std.proofs.lemmas.Bool.Decides.{nat_tests}
+use Rattle.std.proofs.Common.{◌≡◌, ℕ, suc, true, false, cond, List, [], ◌∷◌, ◌++◌, length, Ok, Err, refl, sym, ap, ◌∙◌, subst, ⊎_elim, arith}
+use Rattle.std.specs.Prelude.{◌==◌, ◌||◌, codes, bytes_eq}
+use Rattle.std.specs.List.{list_all}
+use Rattle.std.proofs.lemmas.Bool.{false≢true, ne_eqb, or_cases, and_parts, and_left, cond-true, cond-false}
 use Rattle.std.proofs.lemmas.Slice.Eq.{bytes_eq-Decides}
-use Rattle.std.proofs.lemmas.Option.{same_Some}
-use Rattle.tb_sexp.specs.declared.token.Token.{Token}
 use Rattle.tb_sexp.specs.declared.token.Token.TheVariants as token
-use Rattle.tb_sexp.specs.declared.token.Fault.{Fault}
-use Rattle.tb_sexp.specs.declared.token.Fault.TheVariants.{Syntax, LongName, BigNumber, LongString, BadEscape, OpenString}
-use Rattle.tb_sexp.specs.Bytes.{is_delimiter, is_initial, is_subsequent, is_identifier, is_word, run_length}
-use Rattle.tb_sexp.specs.Lexing.{atom_at, atom_of, base_of, based_of, fixnum_of, folded, hash_at, hashed_of, name_of, number_of, run, sized, token_at}
-use Rattle.tb_sexp.specs.Numbers.{are_digits, digit_of, digits_of, is_negative, is_number, value_of, fits_fixnum}
-use Rattle.tb_sexp.specs.Tokens.{EndsWord, Prefix, decimal, based, Sign, unsigned, plus, minus, IsNumeral, numeral}
-use Rattle.tb_sexp.proofs.TokensBytes.{EachOf, delimiter_of, no_delimiter, subsequent_clear, initial_clear, digit_clear, apart_by, Clear, clear_all, run_passed, run_taken}
+use Rattle.tb_sexp.specs.declared.token.Fault.TheVariants.{Syntax}
+use Rattle.tb_sexp.specs.Bytes.{is_initial, is_subsequent, is_identifier, is_word}
+use Rattle.tb_sexp.specs.Lexing.{atom_at, atom_of, name_of, number_of, run, sized, token_at}
+use Rattle.tb_sexp.specs.Tokens.{EndsWord}
+use Rattle.tb_sexp.proofs.TokensBytes.{EachOf, subsequent_clear, initial_clear, apart_by, Clear, clear_all, run_passed, run_taken}
 
 -- a byte that no token but a run up to a delimiter begins with
 abbrev pub IsPlain : ℕ → Type 0

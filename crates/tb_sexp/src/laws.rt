@@ -1,6 +1,8 @@
-ghost use Rattle.std.specs.Prelude.{◌≡◌, ℕ, List, [], ◌∷◌, ◌++◌, ◌⊎◌, length, take, drop, Ok, Err};
+ghost use Rattle.std.specs.Prelude.{◌≡◌, ℕ, pos, neg_ℤ, codes, List, [], ◌∷◌, ◌++◌, ◌⊎◌, length, take, drop, Ok, Err};
 ghost use Rattle.tb_sexp.specs.declared.token.Fault.{Fault};
 ghost use Rattle.tb_sexp.specs.declared.token.Token.{Token};
+ghost use Rattle.tb_sexp.specs.declared.token.Fault.TheVariants.{BadEscape};
+ghost use Rattle.tb_sexp.specs.declared.token.Token.TheVariants as token;
 ghost use Rattle.tb_sexp.specs.Blanks.{BeginsNoBlank, Blank, BlankEnd, IsNoBlank};
 ghost use Rattle.tb_sexp.specs.Bytes.{blanks};
 ghost use Rattle.tb_sexp.specs.Lexing.{token_at};
@@ -55,4 +57,15 @@ pub fn blanks_only()
 pub fn words_begin()
     ensures tokens { (w : List ℕ) (t : Token) → Spells w t → BeginsNoBlank w }
     ensures faults { (bs : List ℕ) (f : Fault) → Spoiled bs f → BeginsNoBlank bs }
+{}
+
+/// Rows of the grammar.
+pub fn worked_rows()
+    ensures number { Spells (codes "#X-1f") (token.Fix (neg_ℤ (pos 31))) }
+    ensures text { Spells (codes "\"a\\n\"") (token.Str (97 ∷ 10 ∷ [])) }
+    ensures name { Spells (codes "Ab+") (token.Name (codes "ab+")) }
+    ensures digits { HasToken (codes "1+") → ⊥ }
+    ensures character { HasToken (codes "#\\spac") → ⊥ }
+    ensures escape { Faulty (codes "\"a\\q\"") (BadEscape 2) }
+    ensures blank { Blank (codes " ;x\n\t") }
 {}

@@ -4,7 +4,7 @@
 mod atoms;
 mod datum;
 mod frames;
-pub mod laws;
+mod laws;
 mod lexer;
 mod numbers;
 mod parser;
@@ -17,6 +17,10 @@ mod strings;
 mod token;
 
 pub use datum::{Datum, DatumRow, Node};
+pub use laws::{
+    blanks_found, blanks_only, fault_found, fault_only, one_token_or_fault, token_found,
+    token_only, token_or_fault, words_begin, worked_rows,
+};
 pub use printer::print_datum;
 pub use reader::read_all;
 pub use refusal::ReadRefusal;
