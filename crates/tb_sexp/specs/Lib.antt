@@ -1,3 +1,4 @@
+pub mod Blanks
 pub mod Bytes
 pub mod Lexing
 pub mod Numbers
@@ -10,3 +11,5 @@ pub mod Reading
 pub mod Runs
 pub mod Grammar
 pub mod GrammarRows
+pub mod Tokens
+pub mod Texts
