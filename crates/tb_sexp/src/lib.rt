@@ -3,8 +3,8 @@
 
 mod atoms;
 mod datum;
+mod examples;
 mod frames;
-mod grammar_examples;
 mod grammar_laws;
 mod laws;
 mod lexer;
@@ -19,16 +19,11 @@ mod strings;
 mod token;
 
 pub use datum::{Datum, DatumRow, Node};
-pub use grammar_examples::worked_rows;
+pub use examples::worked_rows;
 pub use grammar_laws::{
-    answers_at_the_end, atoms_stand_where_data_do, more_levels_spell_more,
-    reached_data_are_spelled, reached_rows_can_go_on, refusals_of_tokens, rows_that_end_early,
-    spelled_data_are_reached, tokens_that_are_refused,
+    ends_are_answered_by_their_rows, rows_are_read_as_spelled, tokens_are_refused_by_their_rows,
 };
-pub use laws::{
-    blanks_found, blanks_only, fault_found, fault_only, one_token_or_fault, token_found,
-    token_only, token_or_fault, words_begin, worked_words,
-};
+pub use laws::{blanks_are_passed, tokens_are_read_as_spelled};
 pub use printer::print_datum;
 pub use reader::read_all;
 pub use refusal::ReadRefusal;

@@ -8,10 +8,14 @@ use Rattle.tb_sexp.specs.Grammar.{Placed, placed, of_bool, of_fix, of_name, IsDa
 use Rattle.tb_sexp.specs.GrammarRows.{row, joined_row, joined_data, quoted_row, quoted_data}
 use Rattle.tb_sexp.specs.Runs.{nothing}
 use Rattle.tb_sexp.specs.Tree.{Tree, At, Name}
+use Rattle.tb_sexp.specs.declared.token.Fault.TheVariants.{Syntax}
+use Rattle.tb_sexp.specs.Blanks.{nothing as nothing_blank, whitespace, comment}
+use Rattle.tb_sexp.specs.Tokens.{number, numeral, based, minus, name, text, plain, escaped, no_more}
+use Rattle.tb_sexp.proofs.TokensApart.{no_token_at, fault_found}
 use Rattle.tb_sexp.proofs.GrammarSteps.{begins_list, begins_mark, Step, begin_step, atom_step, dot_step}
 use Rattle.tb_sexp.proofs.GrammarRuns.{Runs, done, next}
 use Rattle.tb_sexp.proofs.GrammarOpens.{go_on_steps, shorter}
-use Rattle.tb_sexp.proofs.grammar_examples.worked_rows.Goals as goal
+use Rattle.tb_sexp.proofs.examples.worked_rows.Goals as goal
 
 one : {n : ℕ} {ts : List Placed} {d : Tree} → IsDatum n ts d → AreData n (ts ++ []) (d ∷ [])
 one x = more_data x no_data
@@ -85,4 +89,11 @@ returns c = record {
   two_levels = two_levels_row;
   one_level = one_level_row;
   last = opened_last_row;
+  number = number (numeral {ds = codes "1f"} (based {b = 88} refl) minus refl) refl;
+  text = text (plain (λ e. omega arith) (λ e. omega arith) (escaped {b = 110} refl no_more)) (omega arith);
+  name = name {w = codes "Ab+"} refl (omega arith);
+  digits = no_token_at (codes "1+") Syntax refl;
+  character = no_token_at (codes "#\\spac") Syntax refl;
+  escape = fault_found (codes "\"a\\q\"") _ refl;
+  blank = whitespace {b = 32} refl (comment (codes "x") refl (whitespace {b = 9} refl nothing_blank));
 }
