@@ -9,7 +9,8 @@ ghost use Rattle.tb_sexp.specs.GrammarRows.{joined_data, joined_row, quoted_data
 ghost use Rattle.tb_sexp.specs.Tokens.{Faulty, HasToken, Spells};
 
 /// Worked rows: `(a . (b))` and `'#(1) #t` spell data, two levels deep and no less; nothing begins with `(.`, `)` or
-/// `')`; `((` needs two levels; the vector is what was opened last in `( #( ()`.
+/// `')`; `((` needs two levels; the vector is what was opened last in `( #( ()`. And words: `#X-1f`, `"a\n"` and `Ab+`
+/// are tokens, `1+` and `#\spac` are none, and nothing may be written `\q` in a string.
 pub fn worked_rows()
     ensures joined { (p : Place) → AreData 2 (row p joined_row) (joined_data p) }
     ensures joined_deep { (p : Place) → CanGoOn 1 (row p joined_row) → ⊥ }

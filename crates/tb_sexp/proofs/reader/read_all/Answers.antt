@@ -8,7 +8,7 @@ use Rattle.tb_sexp.proofs.reader.read_all.Goals as goal
 
 pub returns-then-is_empty : goal.returns-then-is_empty
 returns-then-is_empty c =
-    ends (view_state c.loop-tokens.open) c.loop-tokens.place c.pass-start.result c.loop-tokens.rest.now c.behind-tokens.result.now
+    ends (view_state c.loop-tokens.state) c.loop-tokens.place c.pass-start.result c.loop-tokens.rest.now c.behind-tokens.result.now
     (ReadsFrom nothing (text_start c.args.library) c.args.text.now) _ c.loop-tokens.invariant.reads
     (behind_blanks _ _ _ _ c.blanks-count.result c.blanks-count.ensures.exact c.pass-start.ensures.exact c.behind-tokens.ensures.exact)
     (sym c.is_empty.ensures ∙ c.if-is_empty.true) c.finish.ensures
@@ -19,7 +19,7 @@ take_token-requires c =
 
 pub returns-in-Err : goal.returns-in-Err
 returns-in-Err c =
-    refuses (view_state c.loop-tokens.open) c.loop-tokens.place c.pass-start.result c.loop-tokens.rest.now c.behind-tokens.result.now
+    refuses (view_state c.loop-tokens.state) c.loop-tokens.place c.pass-start.result c.loop-tokens.rest.now c.behind-tokens.result.now
     (ReadsFrom nothing (text_start c.args.library) c.args.text.now) c.in-Err.refusal c.loop-tokens.invariant.reads
     (behind_blanks _ _ _ _ c.blanks-count.result c.blanks-count.ensures.exact c.pass-start.ensures.exact c.behind-tokens.ensures.exact)
     (sym c.is_empty.ensures ∙ c.if-is_empty.false) c.in-Err.ensures.exact
@@ -27,7 +27,7 @@ returns-in-Err c =
 pub loop-tokens-preserved : goal.loop-tokens-preserved
 loop-tokens-preserved c = record {
   room = room-fewer c.pass-place.result (length c.behind-tokens.result.now - c.in-Ok.size) (length c.behind-rest.result.now) (omega arith) c.pass-place.ensures.room;
-  reads = goes_on (view_state c.loop-tokens.open) (view_state c.take_token.new.open) c.loop-tokens.place c.pass-start.result c.pass-place.result
+  reads = goes_on (view_state c.loop-tokens.state) (view_state c.take_token.new.state) c.loop-tokens.place c.pass-start.result c.pass-place.result
       c.loop-tokens.rest.now c.behind-tokens.result.now c.behind-rest.result.now c.in-Ok.size
       (ReadsFrom nothing (text_start c.args.library) c.args.text.now) c.loop-tokens.invariant.reads
       (behind_blanks _ _ _ _ c.blanks-count.result c.blanks-count.ensures.exact c.pass-start.ensures.exact c.behind-tokens.ensures.exact)

@@ -10,7 +10,7 @@ use Rattle.tb_sexp.proofs.reader.read_all.Given as goal
 abbrev pub invariant-loop-tokens : goal.invariant-loop-tokens
 invariant-loop-tokens l = record {
   room : HasRoom l.place (length l.rest);
-  reads : (r : Result (List Tree) ReadRefusal) → ReadsFrom (view_state l.open) l.place l.rest r → ReadsFrom nothing (text_start l.fn.library) l.text r;
+  reads : (r : Result (List Tree) ReadRefusal) → ReadsFrom (view_state l.state) l.place l.rest r → ReadsFrom nothing (text_start l.fn.library) l.text r;
 }
 
 abbrev pub decreases-loop-tokens : goal.decreases-loop-tokens
