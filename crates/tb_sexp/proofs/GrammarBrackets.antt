@@ -114,3 +114,7 @@ opened_first {ts = ts} {q = q} o =
 
 pub opened_once : (ts : List Placed) (q r : Place) → OpenedLast ts q → OpenedLast ts r → q ≡ r
 opened_once ts q r o u = let e = sym (opened_first o) ∙ opened_first u in cc
+
+-- in tokens that spell data nothing is open
+pub whole_closed : {n : ℕ} {ts : List Placed} {ds : List Tree} {q : Place} → AreData n ts ds → OpenedLast ts q → ⊥
+whole_closed x o = let e = sym (balanced_opens (data_balanced x) []) ∙ opened_first o in cc

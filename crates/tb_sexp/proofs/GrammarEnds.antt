@@ -22,12 +22,12 @@ abbrev pub BracketOpen : List Placed → Place → Type 0
 BracketOpen ts q = OpenedLast ts q × ((p : Place) (m : Mark) → EndsWith ts (placed p (token.Mark m)) → ⊥) × ((n : ℕ) (ds : List Tree) → AreData n ts ds → ⊥)
 
 -- an answer at the end of the text
-data Ends (ts : List Placed) : Result (List Tree) ReadRefusal → Type 0 where
+pub data Ends (ts : List Placed) : Result (List Tree) ReadRefusal → Type 0 where
   ends_whole : {ds : List Tree} → AreData 256 ts ds → Ends ts (Ok ds)
   ends_at_mark : {q : Place} → MarkAtEnd ts q → Ends ts (Err (Syntax q))
   ends_open : {q : Place} → BracketOpen ts q → Ends ts (Err (Unclosed q))
 
-ended : (ts : List Placed) (s : State) (fs : List Frame) → Reaches ts s → s.frames ≡ fs → Ends ts (finish s.finished fs)
+pub ended : (ts : List Placed) (s : State) (fs : List Frame) → Reaches ts s → s.frames ≡ fs → Ends ts (finish s.finished fs)
 ended ts s [] reached is = ends_whole (whole ts s reached is)
 ended ts s (InMark q m ∷ fs) reached is = let x = mark_last ts s q m fs reached is in ends_at_mark (m, x.0, x.1)
 ended ts s (InList q es ∷ fs) reached is = ends_open (bracket_last ts s q (InList q es) fs reached is in_list)

@@ -99,7 +99,7 @@ mark_last ts s q m fs reached is = let run = reaches_runs reached in let o = run
 frame_of_mark : {p : Place} {m : Mark} {f : Frame} → Begins p (token.Mark m) f → f ≡ InMark p m
 frame_of_mark begins_mark = refl
 
-marked_frames : {l : ℕ} {ds : List Tree} {fs : List Frame} {p : Place} {m : Mark} {s : State} → Step l ds fs p (token.Mark m) s → s.frames ≡ InMark p m ∷ fs
+pub marked_frames : {l : ℕ} {ds : List Tree} {fs : List Frame} {p : Place} {m : Mark} {s : State} → Step l ds fs p (token.Mark m) s → s.frames ≡ InMark p m ∷ fs
 marked_frames {fs = fs} (begin_step takes low b) = ap (λ f. f ∷ fs) (frame_of_mark b)
 marked_frames (atom_step takes a) = elim a [ ]
 

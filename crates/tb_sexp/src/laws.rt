@@ -1,10 +1,13 @@
-ghost use Rattle.std.specs.Prelude.{◌≡◌, ℕ, List, [], ◌∷◌, ◌++◌, ◌⊎◌, length, take, drop, Ok, Err};
+ghost use Rattle.std.specs.Prelude.{◌≡◌, ℕ, Bool, List, [], ◌∷◌, ◌++◌, ◌⊎◌, length, take, drop, Ok, Err};
+ghost use Rattle.tb_sexp.specs.declared.refusal.ReadRefusal.{ReadRefusal};
 ghost use Rattle.tb_sexp.specs.declared.token.Fault.{Fault};
 ghost use Rattle.tb_sexp.specs.declared.token.Token.{Token};
 ghost use Rattle.tb_sexp.specs.Blanks.{BeginsNoBlank, Blank, BlankEnd, IsNoBlank};
 ghost use Rattle.tb_sexp.specs.Bytes.{blanks};
 ghost use Rattle.tb_sexp.specs.Lexing.{token_at};
+ghost use Rattle.tb_sexp.specs.Texts.{IsRefused, IsText};
 ghost use Rattle.tb_sexp.specs.Tokens.{EndsAt, Faulty, HasToken, Spells, Spoiled, TokenAt};
+ghost use Rattle.tb_sexp.specs.Tree.{Tree};
 
 /// What reading takes for a token is what the bytes that it takes spell, and what a word spells is read where it may
 /// end; what reading finds wrong is wrong, and what is wrong is found. So a text begins with one token or has one fault.
@@ -28,4 +31,12 @@ pub fn blanks_are_passed()
     ensures end_only { (bs : List ℕ) → BlankEnd bs → (blanks bs ≡ length bs) × (drop (blanks bs) bs ≡ []) }
     ensures words { (w : List ℕ) (t : Token) → Spells w t → BeginsNoBlank w }
     ensures faults { (bs : List ℕ) (f : Fault) → Spoiled bs f → BeginsNoBlank bs }
+{}
+
+/// A text spells one row of data or has one refusal, and not both.
+pub fn texts_read_one_way()
+    ensures one_reading { (library : Bool) (text : List ℕ) (ds es : List Tree) → IsText library text ds → IsText library text es → ds ≡ es }
+    ensures not_both { (library : Bool) (text : List ℕ) (ds : List Tree) (e : ReadRefusal) → IsText library text ds → IsRefused library text e → ⊥ }
+    ensures one_refusal { (library : Bool) (text : List ℕ) (e f : ReadRefusal) → IsRefused library text e → IsRefused library text f → e ≡ f }
+    ensures covered { (library : Bool) (text : List ℕ) → ((ds : List Tree) × IsText library text ds) ⊎ ((e : ReadRefusal) × IsRefused library text e) }
 {}

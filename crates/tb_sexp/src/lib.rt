@@ -23,7 +23,7 @@ pub use examples::worked_rows;
 pub use grammar_laws::{
     ends_are_answered_by_their_rows, rows_are_read_as_spelled, tokens_are_refused_by_their_rows,
 };
-pub use laws::{blanks_are_passed, tokens_are_read_as_spelled};
+pub use laws::{blanks_are_passed, texts_read_one_way, tokens_are_read_as_spelled};
 pub use printer::print_datum;
 pub use reader::read_all;
 pub use refusal::ReadRefusal;
