@@ -10,6 +10,7 @@ mod laws;
 mod lexer;
 mod numbers;
 mod parser;
+mod print_laws;
 mod printer;
 mod reader;
 mod refusal;
@@ -29,6 +30,7 @@ pub use laws::{
     blanks_found, blanks_only, fault_found, fault_only, one_token_or_fault, token_found,
     token_only, token_or_fault, words_begin, worked_words,
 };
+pub use print_laws::{printed_reads_back, read_data};
 pub use printer::print_datum;
 pub use reader::read_all;
 pub use refusal::ReadRefusal;
