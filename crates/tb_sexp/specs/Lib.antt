@@ -13,3 +13,4 @@ pub mod Grammar
 pub mod GrammarRows
 pub mod Tokens
 pub mod Texts
+pub mod ReadData

@@ -1,10 +1,13 @@
-ghost use Rattle.std.specs.Prelude.{◌≡◌, ◌+◌, ◌-◌, ◌≤◌, ◌<◌, map, IfOk, length, drop, take};
+ghost use Rattle.std.specs.Prelude.{◌≡◌, ◌+◌, ◌-◌, ◌≤◌, ◌<◌, map, IfErr, IfOk, length, drop, take};
+ghost use Rattle.std.specs.List.{All};
 ghost use Rattle.tb_sexp.specs.Frames.{view_frame, view_state};
 ghost use Rattle.tb_sexp.specs.Places.{HasRoom, behind_all};
+ghost use Rattle.tb_sexp.specs.ReadData.{IsRead};
 ghost use Rattle.tb_sexp.specs.Reading as reading;
 ghost use Rattle.tb_sexp.specs.Reading.{failed, refusal_of};
 ghost use Rattle.tb_sexp.specs.Runs as runs;
 ghost use Rattle.tb_sexp.specs.Runs.{Reads, Takes, shown};
+ghost use Rattle.tb_sexp.specs.Texts.{IsText, RefusedAs};
 ghost use Rattle.tb_sexp.specs.View.{view};
 
 use super::frames::{Frame, Open};
@@ -113,8 +116,8 @@ fn pass(place: Place, text: &[u8], count: usize) -> Place
     place_behind(place, front(text, count))
 }
 
-/// The data that the text spells, or its first refusal. `library` says whose places they have.
-pub fn read_all(alloc: Global, text: &[u8], library: bool) -> Result<Vec<Datum>, ReadRefusal>
+/// Reads the text token by token, each as `ReadsFrom` has it.
+fn read_tokens(alloc: Global, text: &[u8], library: bool) -> Result<Vec<Datum>, ReadRefusal>
     requires { length text.now ≤ 4194304 }
     ensures { Reads library text.now (shown (λ items_read. map view items_read.items) result) }
 {
@@ -143,4 +146,15 @@ pub fn read_all(alloc: Global, text: &[u8], library: bool) -> Result<Vec<Datum>,
             Err(refusal) => return Err(refusal),
         }
     }
+}
+
+/// The data that the text spells, or its first refusal, or `NoMemory`. `library` says whose places they have. At most
+/// 4,194,304 bytes are read.
+pub fn read_all(alloc: Global, text: &[u8], library: bool) -> Result<Vec<Datum>, ReadRefusal>
+    requires { length text.now ≤ 4194304 }
+    ensures found { IfOk result (λ items_read. IsText library text.now (map view items_read.items)) }
+    ensures refused { IfErr result (λ e. RefusedAs library text.now e) }
+    ensures kept { IfOk result (λ items_read. All (λ d. IsRead 256 d) (map view items_read.items)) }
+{
+    read_tokens(alloc, text, library)
 }

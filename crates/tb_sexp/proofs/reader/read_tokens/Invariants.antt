@@ -5,7 +5,7 @@ use Rattle.tb_sexp.specs.Frames.{view_state}
 use Rattle.tb_sexp.specs.Places.{HasRoom, text_start}
 use Rattle.tb_sexp.specs.Runs.{ReadsFrom, nothing}
 use Rattle.tb_sexp.specs.Tree.{Tree}
-use Rattle.tb_sexp.proofs.reader.read_all.Given as goal
+use Rattle.tb_sexp.proofs.reader.read_tokens.Given as goal
 
 abbrev pub invariant-loop-tokens : goal.invariant-loop-tokens
 invariant-loop-tokens l = record {
