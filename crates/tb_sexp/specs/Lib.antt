@@ -1,3 +1,4 @@
+pub mod Blanks
 pub mod Bytes
 pub mod Lexing
 pub mod Numbers
@@ -8,3 +9,8 @@ pub mod View
 pub mod Frames
 pub mod Reading
 pub mod Runs
+pub mod Grammar
+pub mod GrammarRows
+pub mod Tokens
+pub mod Texts
+pub mod ReadData

@@ -93,28 +93,28 @@ fn put_element(elements: &mut Vec<Datum>, datum: Datum) -> Result<(), NoMemory>
 }
 
 /// Gives a finished datum to what waits for it. The recursion goes over marks in a row.
-pub fn give(alloc: Global, open: &mut Open, datum: Datum) -> Result<(), NoMemory>
-    ensures { OnOk result (view_state open.new ≡ frames.give (map view open.old.finished.items) (map view_frame open.old.frames) (view datum)) }
+pub fn give(alloc: Global, state: &mut Open, datum: Datum) -> Result<(), NoMemory>
+    ensures { OnOk result (view_state state.new ≡ frames.give (map view state.old.finished.items) (map view_frame state.old.frames) (view datum)) }
 {
-    match open.frames.pop() {
-        None => put_element(&mut open.finished, datum),
+    match state.frames.pop() {
+        None => put_element(&mut state.finished, datum),
         Some(Frame::Mark(place, mark)) => {
             let whole = marked_datum(alloc, place, mark, datum)?;
-            give(alloc, open, whole)
+            give(alloc, state, whole)
         }
         Some(Frame::List(place, mut elements)) => {
             put_element(&mut elements, datum)?;
-            open.frames.push(Frame::List(place, elements))
+            state.frames.push(Frame::List(place, elements))
         }
         Some(Frame::AfterDot(place, elements)) => {
-            open.frames.push(Frame::AfterTail(place, elements, datum))
+            state.frames.push(Frame::AfterTail(place, elements, datum))
         }
         Some(Frame::AfterTail(place, elements, tail)) => {
-            open.frames.push(Frame::AfterTail(place, elements, tail))
+            state.frames.push(Frame::AfterTail(place, elements, tail))
         }
         Some(Frame::Vector(place, mut elements)) => {
             put_element(&mut elements, datum)?;
-            open.frames.push(Frame::Vector(place, elements))
+            state.frames.push(Frame::Vector(place, elements))
         }
     }
 }

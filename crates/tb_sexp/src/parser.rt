@@ -99,40 +99,40 @@ fn dotted_node(alloc: Global, elements: Vec<Datum>, tail: Datum) -> Result<Node,
 }
 
 /// Whether a datum can stand here. What is open stays as it is.
-pub fn takes_datum(open: &mut Open) -> Result<bool, NoMemory>
-    ensures same { OnOk result (view_state open.new ≡ view_state open.old) }
-    ensures exact { IfOk result (λ takes. takes ≡ reading.takes_datum (map view_frame open.old.frames)) }
+pub fn takes_datum(state: &mut Open) -> Result<bool, NoMemory>
+    ensures same { OnOk result (view_state state.new ≡ view_state state.old) }
+    ensures exact { IfOk result (λ takes. takes ≡ reading.takes_datum (map view_frame state.old.frames)) }
 {
-    match open.frames.pop() {
+    match state.frames.pop() {
         None => Ok(true),
         Some(Frame::AfterTail(place, elements, tail)) => {
-            open.frames.push(Frame::AfterTail(place, elements, tail))?;
+            state.frames.push(Frame::AfterTail(place, elements, tail))?;
             Ok(false)
         }
         Some(frame) => {
-            open.frames.push(frame)?;
+            state.frames.push(frame)?;
             Ok(true)
         }
     }
 }
 
-fn close(alloc: Global, open: &mut Open, place: Place) -> Result<(), ReadRefusal>
-    ensures { Accepts (reading.close (map view open.old.finished.items) (map view_frame open.old.frames) place) result (view_state open.new) }
+fn close(alloc: Global, state: &mut Open, place: Place) -> Result<(), ReadRefusal>
+    ensures { Accepts (reading.close (map view state.old.finished.items) (map view_frame state.old.frames) place) result (view_state state.new) }
 {
-    match open.frames.pop() {
+    match state.frames.pop() {
         Some(Frame::List(start, elements)) => {
             let node = list_node(elements);
-            give(alloc, open, Datum { place: start, node })?;
+            give(alloc, state, Datum { place: start, node })?;
             Ok(())
         }
         Some(Frame::AfterTail(start, elements, tail)) => {
             let node = dotted_node(alloc, elements, tail)?;
-            give(alloc, open, Datum { place: start, node })?;
+            give(alloc, state, Datum { place: start, node })?;
             Ok(())
         }
         Some(Frame::Vector(start, elements)) => {
             let node = Node::Vector(Row::from_vec(elements));
-            give(alloc, open, Datum { place: start, node })?;
+            give(alloc, state, Datum { place: start, node })?;
             Ok(())
         }
         Some(Frame::Mark(_, _)) => Err(ReadRefusal::Syntax(place)),
@@ -141,15 +141,15 @@ fn close(alloc: Global, open: &mut Open, place: Place) -> Result<(), ReadRefusal
     }
 }
 
-fn dot(open: &mut Open, place: Place) -> Result<(), ReadRefusal>
-    ensures { Accepts (reading.dot (map view open.old.finished.items) (map view_frame open.old.frames) place) result (view_state open.new) }
+fn dot(state: &mut Open, place: Place) -> Result<(), ReadRefusal>
+    ensures { Accepts (reading.dot (map view state.old.finished.items) (map view_frame state.old.frames) place) result (view_state state.new) }
 {
-    match open.frames.pop() {
+    match state.frames.pop() {
         Some(Frame::List(start, elements)) => {
             if elements.is_empty() {
                 Err(ReadRefusal::Syntax(place))
             } else {
-                open.frames.push(Frame::AfterDot(start, elements))?;
+                state.frames.push(Frame::AfterDot(start, elements))?;
                 Ok(())
             }
         }
@@ -163,18 +163,18 @@ fn dot(open: &mut Open, place: Place) -> Result<(), ReadRefusal>
 
 /// Begins a list, a vector or a mark. `deep` says what is wrong where too many are not finished.
 fn begin_frame(
-    open: &mut Open,
+    state: &mut Open,
     place: Place,
     frame: Frame,
     deep: ReadRefusal,
 ) -> Result<(), ReadRefusal>
-    ensures { Accepts (begin (view_state open.old) place (view_frame frame) deep) result (view_state open.new) }
+    ensures { Accepts (begin (view_state state.old) place (view_frame frame) deep) result (view_state state.new) }
 {
-    if !takes_datum(open)? {
+    if !takes_datum(state)? {
         return Err(ReadRefusal::Syntax(place));
     }
-    if open.frames.len() < DEPTH {
-        open.frames.push(frame)?;
+    if state.frames.len() < DEPTH {
+        state.frames.push(frame)?;
         Ok(())
     } else {
         Err(deep)
@@ -192,11 +192,11 @@ fn deep_mark_refusal(place: Place, rest: &[u8]) -> ReadRefusal
     }
 }
 
-fn put_datum(alloc: Global, open: &mut Open, place: Place, node: Node) -> Result<(), ReadRefusal>
-    ensures { Accepts (reading.datum (view_state open.old) place (view_node node)) result (view_state open.new) }
+fn put_datum(alloc: Global, state: &mut Open, place: Place, node: Node) -> Result<(), ReadRefusal>
+    ensures { Accepts (reading.datum (view_state state.old) place (view_node node)) result (view_state state.new) }
 {
-    if takes_datum(open)? {
-        give(alloc, open, Datum { place, node })?;
+    if takes_datum(state)? {
+        give(alloc, state, Datum { place, node })?;
         Ok(())
     } else {
         Err(ReadRefusal::Syntax(place))
@@ -206,38 +206,38 @@ fn put_datum(alloc: Global, open: &mut Open, place: Place, node: Node) -> Result
 /// Goes on with one token, which stands at the place and before the rest of the text.
 pub fn accept_token(
     alloc: Global,
-    open: &mut Open,
+    state: &mut Open,
     place: Place,
     token: Token,
     rest: &[u8],
 ) -> Result<(), ReadRefusal>
-    ensures { Accepts (accept (view_state open.old) place token rest.now) result (view_state open.new) }
+    ensures { Accepts (accept (view_state state.old) place token rest.now) result (view_state state.new) }
 {
     match token {
         Token::Open => begin_frame(
-            open,
+            state,
             place,
             Frame::List(place, Vec::new(alloc)),
             ReadRefusal::TooDeep(place),
         ),
         Token::OpenVector => begin_frame(
-            open,
+            state,
             place,
             Frame::Vector(place, Vec::new(alloc)),
             ReadRefusal::TooDeep(place),
         ),
-        Token::Close => close(alloc, open, place),
+        Token::Close => close(alloc, state, place),
         Token::Mark(mark) => begin_frame(
-            open,
+            state,
             place,
             Frame::Mark(place, mark),
             deep_mark_refusal(place, rest),
         ),
-        Token::Dot => dot(open, place),
-        Token::Bool(b) => put_datum(alloc, open, place, Node::Bool(b)),
-        Token::Fix(n) => put_datum(alloc, open, place, Node::Fix(n)),
-        Token::Char(c) => put_datum(alloc, open, place, Node::Char(c)),
-        Token::Str(text) => put_datum(alloc, open, place, Node::Str(text)),
-        Token::Name(text) => put_datum(alloc, open, place, Node::Name(text, 0)),
+        Token::Dot => dot(state, place),
+        Token::Bool(b) => put_datum(alloc, state, place, Node::Bool(b)),
+        Token::Fix(n) => put_datum(alloc, state, place, Node::Fix(n)),
+        Token::Char(c) => put_datum(alloc, state, place, Node::Char(c)),
+        Token::Str(text) => put_datum(alloc, state, place, Node::Str(text)),
+        Token::Name(text) => put_datum(alloc, state, place, Node::Name(text, 0)),
     }
 }

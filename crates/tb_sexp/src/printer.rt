@@ -1,6 +1,7 @@
-ghost use Rattle.std.specs.Prelude.{◌≡◌, ◌++◌, [], ◌∷◌, map, IfOk, OnOk, codes};
+ghost use Rattle.std.specs.Prelude.{◌≡◌, ◌++◌, Bool, [], ◌∷◌, map, IfOk, OnOk, codes};
 ghost use Rattle.std.specs.Fmt.{signed_decimal};
 ghost use Rattle.tb_sexp.specs.Printing.{printed, printed_all, printed_byte, printed_bytes, printed_character, printed_truth};
+ghost use Rattle.tb_sexp.specs.ReadData.{IsRead, ReadsBack};
 ghost use Rattle.tb_sexp.specs.View.{trees, view};
 
 use super::{Datum, Node};
@@ -9,9 +10,10 @@ use std::alloc::Global;
 use tb_prim::{Bytes, NoMemory};
 
 /// The one printed text of the datum: one space between elements, no abbreviations, numbers in decimal. An alias
-/// is printed by its text alone.
+/// is printed by its text alone. The text of a datum that was read spells that datum, apart from places.
 pub fn print_datum(alloc: Global, datum: &Datum) -> Result<Bytes, NoMemory>
-    ensures { IfOk result (λ text. text ≡ printed (view datum.now)) }
+    ensures exact { IfOk result (λ text. text ≡ printed (view datum.now)) }
+    ensures reads_back { IfOk result (λ text. (library : Bool) → IsRead 256 (view datum.now) → ReadsBack library text (view datum.now)) }
 {
     let mut out = Vec::new(alloc);
     put_datum(&mut out, datum)?;

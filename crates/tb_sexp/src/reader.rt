@@ -1,10 +1,13 @@
-ghost use Rattle.std.specs.Prelude.{◌≡◌, ◌+◌, ◌-◌, ◌≤◌, ◌<◌, map, IfOk, length, drop, take};
+ghost use Rattle.std.specs.Prelude.{◌≡◌, ◌+◌, ◌-◌, ◌≤◌, ◌<◌, map, IfErr, IfOk, length, drop, take};
+ghost use Rattle.std.specs.List.{All};
 ghost use Rattle.tb_sexp.specs.Frames.{view_frame, view_state};
 ghost use Rattle.tb_sexp.specs.Places.{HasRoom, behind_all};
+ghost use Rattle.tb_sexp.specs.ReadData.{IsRead};
 ghost use Rattle.tb_sexp.specs.Reading as reading;
 ghost use Rattle.tb_sexp.specs.Reading.{failed, refusal_of};
 ghost use Rattle.tb_sexp.specs.Runs as runs;
 ghost use Rattle.tb_sexp.specs.Runs.{Reads, Takes, shown};
+ghost use Rattle.tb_sexp.specs.Texts.{IsText, RefusedAs};
 ghost use Rattle.tb_sexp.specs.View.{view};
 
 use super::frames::{Frame, Open};
@@ -44,15 +47,15 @@ fn refusal_at(fault: Fault, place: Place, text: &[u8]) -> ReadRefusal
 }
 
 fn failed_at(
-    open: &mut Open,
+    state: &mut Open,
     fault: Fault,
     place: Place,
     text: &[u8],
 ) -> Result<ReadRefusal, NoMemory>
     requires { HasRoom place (length text.now) }
-    ensures { IfOk result (λ refusal. refusal ≡ failed (view_state open.old) fault place text.now) }
+    ensures { IfOk result (λ refusal. refusal ≡ failed (view_state state.old) fault place text.now) }
 {
-    if takes_datum(open)? {
+    if takes_datum(state)? {
         Ok(refusal_at(fault, place, text))
     } else {
         Ok(ReadRefusal::Syntax(place))
@@ -62,30 +65,30 @@ fn failed_at(
 /// Takes the token at the front of the text, which stands at the place, and says how many bytes it has.
 fn take_token(
     alloc: Global,
-    open: &mut Open,
+    state: &mut Open,
     place: Place,
     text: &[u8],
 ) -> Result<usize, ReadRefusal>
     requires { HasRoom place (length text.now) }
-    ensures exact { Takes (runs.take_token (view_state open.old) place text.now) result (view_state open.new) }
+    ensures exact { Takes (runs.take_token (view_state state.old) place text.now) result (view_state state.new) }
     ensures within { IfOk result (λ size. (0 < size) × (size ≤ length text.now)) }
 {
     match read_token(alloc, text) {
         Ok((token, size)) => {
-            accept_token(alloc, open, place, token, &text[size..])?;
+            accept_token(alloc, state, place, token, &text[size..])?;
             Ok(size)
         }
         Err(TokenRefusal::NoMemory) => Err(ReadRefusal::NoMemory),
-        Err(TokenRefusal::Fault(fault)) => Err(failed_at(open, fault, place, text)?),
+        Err(TokenRefusal::Fault(fault)) => Err(failed_at(state, fault, place, text)?),
     }
 }
 
 /// The data, at the end of the text.
-fn finish(mut open: Open) -> Result<Vec<Datum>, ReadRefusal>
-    ensures { shown (λ items_read. map view items_read.items) result ≡ (reading.finish (map view open.finished.items) (map view_frame open.frames)) }
+fn finish(mut state: Open) -> Result<Vec<Datum>, ReadRefusal>
+    ensures { shown (λ items_read. map view items_read.items) result ≡ (reading.finish (map view state.finished.items) (map view_frame state.frames)) }
 {
-    match open.frames.pop() {
-        None => Ok(open.finished),
+    match state.frames.pop() {
+        None => Ok(state.finished),
         Some(Frame::Mark(place, _)) => Err(ReadRefusal::Syntax(place)),
         Some(Frame::List(place, _)) => Err(ReadRefusal::Unclosed(place)),
         Some(Frame::AfterDot(place, _)) => Err(ReadRefusal::Unclosed(place)),
@@ -113,12 +116,12 @@ fn pass(place: Place, text: &[u8], count: usize) -> Place
     place_behind(place, front(text, count))
 }
 
-/// The data that the text spells, or its first refusal. `library` says whose places they have.
-pub fn read_all(alloc: Global, text: &[u8], library: bool) -> Result<Vec<Datum>, ReadRefusal>
+/// Reads the text token by token, each as `ReadsFrom` has it.
+fn read_tokens(alloc: Global, text: &[u8], library: bool) -> Result<Vec<Datum>, ReadRefusal>
     requires { length text.now ≤ 4194304 }
     ensures { Reads library text.now (shown (λ items_read. map view items_read.items) result) }
 {
-    let mut open = Open {
+    let mut state = Open {
         finished: Vec::new(alloc),
         frames: Stack::new(alloc),
     };
@@ -133,9 +136,9 @@ pub fn read_all(alloc: Global, text: &[u8], library: bool) -> Result<Vec<Datum>,
         let start = pass(place, rest, count);
         let tokens = behind(rest, count);
         if tokens.is_empty() {
-            return finish(open);
+            return finish(state);
         }
-        match take_token(alloc, &mut open, start, tokens) {
+        match take_token(alloc, &mut state, start, tokens) {
             Ok(size) => {
                 place = pass(start, tokens, size);
                 rest = behind(tokens, size);
@@ -143,4 +146,15 @@ pub fn read_all(alloc: Global, text: &[u8], library: bool) -> Result<Vec<Datum>,
             Err(refusal) => return Err(refusal),
         }
     }
+}
+
+/// The data that the text spells, or its first refusal, or `NoMemory`. `library` says whose places they have. At most
+/// 4,194,304 bytes are read.
+pub fn read_all(alloc: Global, text: &[u8], library: bool) -> Result<Vec<Datum>, ReadRefusal>
+    requires { length text.now ≤ 4194304 }
+    ensures found { IfOk result (λ items_read. IsText library text.now (map view items_read.items)) }
+    ensures refused { IfErr result (λ e. RefusedAs library text.now e) }
+    ensures kept { IfOk result (λ items_read. All (λ d. IsRead 256 d) (map view items_read.items)) }
+{
+    read_tokens(alloc, text, library)
 }

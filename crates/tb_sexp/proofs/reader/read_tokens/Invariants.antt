@@ -5,12 +5,12 @@ use Rattle.tb_sexp.specs.Frames.{view_state}
 use Rattle.tb_sexp.specs.Places.{HasRoom, text_start}
 use Rattle.tb_sexp.specs.Runs.{ReadsFrom, nothing}
 use Rattle.tb_sexp.specs.Tree.{Tree}
-use Rattle.tb_sexp.proofs.reader.read_all.Given as goal
+use Rattle.tb_sexp.proofs.reader.read_tokens.Given as goal
 
 abbrev pub invariant-loop-tokens : goal.invariant-loop-tokens
 invariant-loop-tokens l = record {
   room : HasRoom l.place (length l.rest);
-  reads : (r : Result (List Tree) ReadRefusal) → ReadsFrom (view_state l.open) l.place l.rest r → ReadsFrom nothing (text_start l.fn.library) l.text r;
+  reads : (r : Result (List Tree) ReadRefusal) → ReadsFrom (view_state l.state) l.place l.rest r → ReadsFrom nothing (text_start l.fn.library) l.text r;
 }
 
 abbrev pub decreases-loop-tokens : goal.decreases-loop-tokens
