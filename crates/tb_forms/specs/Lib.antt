@@ -1,0 +1,5 @@
+pub mod Scopes
+pub mod Forms
+pub mod Heads
+pub mod Reading
+pub mod Bounds

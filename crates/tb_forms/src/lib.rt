@@ -1,0 +1,12 @@
+//! The expressions of the small grammar that data are: constants, variables, `let`, `if`, sequences, `write-char`,
+//! and `+`, `-`, `=` and `<` of two operands.
+#![tactic(auto)]
+
+mod counts;
+mod head;
+mod laws;
+mod refusal;
+mod scope;
+
+pub use laws::one_meaning;
+pub use refusal::FormRefusal;
