@@ -3,3 +3,4 @@ pub mod Forms
 pub mod Heads
 pub mod Reading
 pub mod Bounds
+pub mod Weights

@@ -1,6 +1,6 @@
 -- Reading data as expressions, up to so many expressions in all: what is read, with the numbers that come next, or
 -- nothing.
-use Rattle.std.specs.Prelude.{◌≡◌, ℕ, ◌+◌, ◌==◌, nat_lt, ◌&&◌, Bool, true, false, cond, List, [], ◌∷◌, Option, Some, None, Result, Ok, Err, length}
+use Rattle.std.specs.Prelude.{◌≡◌, ℕ, ◌+◌, ◌==◌, nat_lt, ◌&&◌, Bool, true, false, cond, List, [], ◌∷◌, ◌++◌, Option, Some, None, Result, Ok, Err, length}
 use Rattle.tb_prim.specs.declared.place.Place.{Place}
 use Rattle.tb_prim.specs.declared.constant.Const.{Const}
 use Rattle.tb_prim.specs.Primitives.{arity_of}
@@ -209,12 +209,35 @@ abbrev mutual
   reading_second m r k v (datum.more h (datum.more d datum.none)) = reading m r k v d
   reading_second m r k v (datum.more h (datum.more d (datum.more e ds))) = None
 
--- a `let` with these bindings, of a list
+-- a `let` of these names, with these bindings in a list
+abbrev pub reading_named : ℕ → Scope → ℕ → ℕ → List (List ℕ) → datum.Trees → datum.Tree → Option (Read Form)
+reading_named m r k v xs bs b =
+    then (reading_bindings m r k (v + length xs) bs) (λ es j w.
+    then (reading m (bind xs v r) j w b) (λ e i u. gives (Let (numbers_of xs v) es e) i u))
+
 abbrev pub reading_bound : ℕ → Scope → ℕ → ℕ → datum.Trees → datum.Tree → Option (Read Form)
 reading_bound m r k v bs b =
-    cond (nat_lt (k + count_data bs) m)
-    (with_names (names_of bs) (λ xs. then (reading_bindings m r k (v + length xs) bs) (λ es j w.
-    then (reading m (bind xs v r) j w b) (λ e i u. gives (Let (numbers_of xs v) es e) i u)))) None
+    cond (nat_lt (k + count_data bs) m) (with_names (names_of bs) (λ xs. reading_named m r k v xs bs b)) None
+
+-- data that are not two
+abbrev pub IsNoPair : datum.Trees → Type 0
+IsNoPair datum.none = Unit {0}
+IsNoPair (datum.more d datum.none) = Unit {0}
+IsNoPair (datum.more d (datum.more e datum.none)) = ⊥
+IsNoPair (datum.more d (datum.more e (datum.more f ds))) = Unit {0}
+
+-- names before others, and expressions before others, where there are any
+abbrev pub before_names : List (List ℕ) → Option (List (List ℕ)) → Option (List (List ℕ))
+before_names xs None = None
+before_names xs (Some ys) = Some (xs ++ ys)
+
+abbrev pub front_of : List Tree → Trees → Trees
+front_of [] es = es
+front_of (e ∷ es) fs = more e (front_of es fs)
+
+abbrev pub before_forms : List Tree → Option (Read Trees) → Option (Read Trees)
+before_forms es None = None
+before_forms es (Some x) = gives (front_of es x.value) x.node x.variable
 
 -- what a call returned is what reading gives, seen as plain data, unless memory ran out
 abbrev pub Fails : {Y : Type 0} → Unread → Option (Read Y) → Type 0

@@ -5,6 +5,8 @@
 mod counts;
 mod head;
 mod laws;
+mod parts;
+mod read;
 mod refusal;
 mod scope;
 

@@ -99,3 +99,21 @@ pub fn inner_scope<'a>(
     made.extend_from_slice(scope)?;
     Ok(made)
 }
+
+/// The numbers of these names, from the first on.
+pub fn variable_numbers(
+    alloc: Global,
+    names: &[&[u8]],
+    first: VarId,
+) -> Result<Vec<VarId>, NoMemory>
+    requires { first + length names.now < 2 ^ 32 }
+    ensures { IfOk result (λ numbers. numbers.items ≡ numbers_of (texts names.now) first) }
+{
+    let mut numbers = Vec::new(alloc);
+    let mut number = first;
+    for _name in names {
+        numbers.push(number)?;
+        number += 1;
+    }
+    Ok(numbers)
+}
