@@ -3,6 +3,7 @@
 #![tactic(auto)]
 
 mod counts;
+mod forms;
 mod head;
 mod laws;
 mod parts;
@@ -10,5 +11,6 @@ mod read;
 mod refusal;
 mod scope;
 
+pub use forms::forms_of;
 pub use laws::one_meaning;
 pub use refusal::FormRefusal;
