@@ -12,7 +12,10 @@ use Rattle.tb_sexp.specs.declared.datum.Datum.{Datum}
 use Rattle.tb_sexp.specs.Tree as datum
 use Rattle.tb_sexp.specs.View as data_view
 use Rattle.tb_forms.specs.Forms.{IsForm, AreForms, AreAccepted, FirstNotBuilt, joined, binders_all}
-use Rattle.tb_forms.specs.Reading.{Read, then, gives, reading, reading_all}
+use Rattle.tb_forms.specs.declared.refusal.Unread.{Unread}
+use Rattle.tb_forms.specs.declared.refusal.Unread.TheVariants as unread
+use Rattle.tb_forms.specs.Refusals.{IsRefusal, refusal_of}
+use Rattle.tb_forms.specs.Reading.{Read, then, gives, Fails, reading, reading_all}
 use Rattle.tb_forms.specs.Scopes.{Scope, no_names}
 use Rattle.tb_forms.proofs.Complete.{form_read}
 use Rattle.tb_forms.proofs.Sound.{SoundAll, all_sound}
@@ -106,3 +109,8 @@ text_refused ds i k v d es lt is few h n =
       accepted = accepted front (trees (map view es)) k v few h;
       not_built = λ e f. refused_so _ _ _ e (ap (λ k. reading 1000 no_names k (binders_all (trees (map view es))) (datum.At d.place (data_view.view_node d.node))) (sym pn) ∙ ap (λ v. reading 1000 no_names k v (datum.At d.place (data_view.view_node d.node))) (sym pv) ∙ ap (reading 1000 no_names k v) (sym seen) ∙ n) f;
     }
+
+pub text_fails : (ds : List Datum) (i k v : ℕ) (d : Datum) (es : List Expr) (u : Unread) → i < length ds → d ≡ get_or ds i d → k ≤ 1000 → reading_all 1000 no_names 0 0 (data_view.trees (map data_view.view (take i ds))) ≡ gives (trees (map view es)) k v →
+    Fails u (reading 1000 no_names k v (data_view.view d)) → IsRefusal (data_view.trees (map data_view.view ds)) (refusal_of u d.place)
+text_fails ds i k v d es unread.NotBuilt lt is few h n = text_refused ds i k v d es lt is few h n
+text_fails ds i k v d es unread.NoMemory lt is few h n = tt

@@ -1,7 +1,7 @@
-ghost use Rattle.std.specs.Prelude.{map, IfOk, IfErr};
+ghost use Rattle.std.specs.Prelude.{◌≡◌, map, IfOk, IfErr};
 ghost use Rattle.tb_core.specs.View.{view, trees};
 ghost use Rattle.tb_forms.specs.Forms.{AreAccepted};
-ghost use Rattle.tb_forms.specs.Refusals.{IsRefusal};
+ghost use Rattle.tb_forms.specs.Refusals.{IsRefusal, refusal_of};
 ghost use Rattle.tb_sexp.specs.View as data_view;
 
 use super::counts::Counts;
@@ -9,7 +9,18 @@ use super::read::read_form;
 use super::refusal::{FormRefusal, Unread};
 use std::alloc::Global;
 use tb_core::Expr;
+use tb_prim::Place;
 use tb_sexp::Datum;
+
+/// What is said of a datum at the place that was not read.
+fn refusal_at(unread: Unread, place: Place) -> FormRefusal
+    ensures { result ≡ refusal_of unread place }
+{
+    match unread {
+        Unread::NotBuilt => FormRefusal::NotBuilt(place),
+        Unread::NoMemory => FormRefusal::NoMemory,
+    }
+}
 
 /// The expressions that the data of a text are, at most 1,000 in all, or the place of the first datum that is
 /// none, or that would bring them past 1,000. The recursion is as deep as the data nest, and no datum is read
@@ -26,8 +37,7 @@ pub fn forms_of(alloc: Global, data: &[Datum]) -> Result<Vec<Expr>, FormRefusal>
     for datum in data {
         match read_form(alloc, &mut counts, &[], datum) {
             Ok(expr) => exprs.push(expr)?,
-            Err(Unread::NotBuilt) => return Err(FormRefusal::NotBuilt(datum.place)),
-            Err(Unread::NoMemory) => return Err(FormRefusal::NoMemory),
+            Err(unread) => return Err(refusal_at(unread, datum.place)),
         }
     }
     Ok(exprs)
