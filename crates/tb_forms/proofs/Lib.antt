@@ -1,0 +1,5 @@
+pub mod Complete
+pub mod Rows
+pub mod Sound
+pub mod Loops
+pub mod Texts

@@ -1,0 +1,16 @@
+//! The expressions of the small grammar that data are: constants, variables, `let`, `if`, sequences, `write-char`,
+//! and `+`, `-`, `=` and `<` of two operands.
+#![tactic(auto)]
+
+mod counts;
+mod forms;
+mod head;
+mod laws;
+mod parts;
+mod read;
+mod refusal;
+mod scope;
+
+pub use forms::forms_of;
+pub use laws::one_meaning;
+pub use refusal::FormRefusal;
