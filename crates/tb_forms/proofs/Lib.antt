@@ -1,5 +1,11 @@
 pub mod Complete
 pub mod Rows
+pub mod Rules
+pub mod RulesNodes
+pub mod RulesPlain
+pub mod RulesRuns
+pub mod RulesScopes
+pub mod RulesSites
 pub mod Sound
 pub mod Loops
 pub mod Texts

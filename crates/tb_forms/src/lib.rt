@@ -9,8 +9,10 @@ mod laws;
 mod parts;
 mod read;
 mod refusal;
+mod rules_laws;
 mod scope;
 
 pub use forms::forms_of;
 pub use laws::one_meaning;
 pub use refusal::FormRefusal;
+pub use rules_laws::forms_keep_rules;
