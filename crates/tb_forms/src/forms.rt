@@ -2,6 +2,7 @@ ghost use Rattle.std.specs.Prelude.{◌≡◌, map, IfOk, IfErr};
 ghost use Rattle.tb_core.specs.View.{view, trees};
 ghost use Rattle.tb_forms.specs.Forms.{AreAccepted};
 ghost use Rattle.tb_forms.specs.Refusals.{IsRefusal, refusal_of};
+ghost use Rattle.tb_small.specs.Compiled.{IsSmall};
 ghost use Rattle.tb_sexp.specs.View as data_view;
 
 use super::counts::Counts;
@@ -26,6 +27,7 @@ fn refusal_at(unread: Unread, place: Place) -> FormRefusal
 /// none, or that would bring them past 1,000. The recursion is as deep as the data nest, and no datum is read
 /// further than its 1,001st expression.
 pub fn forms_of(alloc: Global, data: &[Datum]) -> Result<Vec<Expr>, FormRefusal>
+    ensures small { IfOk result (λ exprs. IsSmall (trees (map view exprs.items))) }
     ensures accepted { IfOk result (λ exprs. AreAccepted (data_view.trees (map data_view.view «data».now)) (trees (map view exprs.items))) }
     ensures refused { IfErr result (λ refusal. IsRefusal (data_view.trees (map data_view.view «data».now)) refusal) }
 {

@@ -3,7 +3,7 @@ use Rattle.std.specs.Prelude.{Err}
 use Rattle.tb_core.specs.View.{view, trees}
 use Rattle.tb_sexp.specs.View as sexp
 use Rattle.tb_forms.specs.Forms.{AreAccepted}
-use Rattle.tb_forms.specs.Refused.{RefusedAt}
+use Rattle.tb_forms.specs.Refusals.{IsRefusal}
 use Rattle.tb_twobit.specs.Refusals.{not_built}
 use Rattle.tb_twobit.specs.GoDoes.{text_no_memory}
 use Rattle.tb_twobit.proofs.Parts.{gained_nothing}
@@ -22,7 +22,7 @@ returns-in-Ok-clause-does g c source bytes text =
 pub returns-in-Err-NotBuilt-clause-does : goal.returns-in-Err-NotBuilt-clause-does
 returns-in-Err-NotBuilt-clause-does g c source bytes text =
     refused_text _ _ 115 _ c.in-Err-NotBuilt.place _ _ c.refuse.result c.in-Err-NotBuilt.place-is c.refuse.ensures.status
-    (not_built (map sexp.view c.args.data.now) text (subst (λ e. RefusedAt (sexp.trees (map sexp.view c.args.data.now)) e) c.in-Err-NotBuilt.field-0-is c.in-Err-NotBuilt.ensures.refused))
+    (not_built (map sexp.view c.args.data.now) text (subst (λ e. IsRefusal (sexp.trees (map sexp.view c.args.data.now)) e) c.in-Err-NotBuilt.field-0-is c.in-Err-NotBuilt.ensures.refused))
     (gained_nothing (g.O.Sink.held c.args.out.now)) c.refuse.ensures.line
 
 pub returns-in-Err-NoMemory-clause-does : goal.returns-in-Err-NoMemory-clause-does
