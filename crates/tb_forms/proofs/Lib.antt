@@ -1,6 +1,7 @@
 pub mod Complete
 pub mod Rows
 pub mod Rules
+pub mod RulesBuilt
 pub mod RulesNodes
 pub mod RulesPlain
 pub mod RulesRuns

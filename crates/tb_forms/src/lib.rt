@@ -15,4 +15,4 @@ mod scope;
 pub use forms::forms_of;
 pub use laws::one_meaning;
 pub use refusal::FormRefusal;
-pub use rules_laws::forms_keep_rules;
+pub use rules_laws::{forms_are_small, forms_keep_rules};

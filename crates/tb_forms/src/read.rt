@@ -60,7 +60,11 @@ fn let_core(
 {
     let variables = variable_numbers(alloc, names, first)?;
     let body = Boxed::new(alloc, body)?;
-    Ok(Core::Let(Row::from_vec(variables), Row::from_vec(values), body))
+    Ok(Core::Let(
+        Row::from_vec(variables),
+        Row::from_vec(values),
+        body,
+    ))
 }
 
 /// Reads a datum as an expression. The recursion is as deep as the datum nests.
