@@ -8,6 +8,7 @@ ghost use Rattle.tb_sexp.specs.View as data_view;
 use super::counts::Counts;
 use super::read::read_form;
 use super::refusal::{FormRefusal, Unread};
+use super::rules_laws::forms_are_small;
 use std::alloc::Global;
 use tb_core::Expr;
 use tb_prim::Place;
@@ -42,5 +43,6 @@ pub fn forms_of(alloc: Global, data: &[Datum]) -> Result<Vec<Expr>, FormRefusal>
             Err(unread) => return Err(refusal_at(unread, datum.place)),
         }
     }
+    forms_are_small();
     Ok(exprs)
 }

@@ -18,4 +18,4 @@ pub returns-clause-accepted : goal.returns-clause-accepted
 returns-clause-accepted c = text_read c.args.data.now c.loop-datum.datum-index c.loop-datum.exprs.items c.loop-datum.counts.nodes c.loop-datum.counts.variables (omega arith) c.loop-datum.counts.few c.loop-datum.invariant
 
 pub returns-clause-small : goal.returns-clause-small
-returns-clause-small c = accepted_small (text_read c.args.data.now c.loop-datum.datum-index c.loop-datum.exprs.items c.loop-datum.counts.nodes c.loop-datum.counts.variables (omega arith) c.loop-datum.counts.few c.loop-datum.invariant)
+returns-clause-small c = c.forms_are_small.ensures.law (data_view.trees (map data_view.view c.args.data.now)) _ (text_read c.args.data.now c.loop-datum.datum-index c.loop-datum.exprs.items c.loop-datum.counts.nodes c.loop-datum.counts.variables (omega arith) c.loop-datum.counts.few c.loop-datum.invariant)
