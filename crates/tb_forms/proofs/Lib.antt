@@ -8,3 +8,5 @@ pub mod RulesRuns
 pub mod RulesScopes
 pub mod RulesSites
 pub mod Sound
+pub mod Loops
+pub mod Texts

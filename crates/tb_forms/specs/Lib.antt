@@ -4,3 +4,4 @@ pub mod Heads
 pub mod Reading
 pub mod Bounds
 pub mod Weights
+pub mod Refusals

@@ -209,15 +209,27 @@ abbrev mutual
   reading_second m r k v (datum.more h (datum.more d datum.none)) = reading m r k v d
   reading_second m r k v (datum.more h (datum.more d (datum.more e ds))) = None
 
--- a `let` of these names, with these bindings in a list
-abbrev pub reading_named : ℕ → Scope → ℕ → ℕ → List (List ℕ) → datum.Trees → datum.Tree → Option (Read Form)
-reading_named m r k v xs bs b =
-    then (reading_bindings m r k (v + length xs) bs) (λ es j w.
-    then (reading m (bind xs v r) j w b) (λ e i u. gives (Let (numbers_of xs v) es e) i u))
+-- a `let` of these names, whose numbers begin with `f`, with these bindings in a list
+abbrev pub reading_named : ℕ → Scope → ℕ → ℕ → ℕ → List (List ℕ) → datum.Trees → datum.Tree → Option (Read Form)
+reading_named m r k v f xs bs b =
+    then (reading_bindings m r k v bs) (λ es j w.
+    then (reading m (bind xs f r) j w b) (λ e i u. gives (Let (numbers_of xs f) es e) i u))
 
 abbrev pub reading_bound : ℕ → Scope → ℕ → ℕ → datum.Trees → datum.Tree → Option (Read Form)
 reading_bound m r k v bs b =
-    cond (nat_lt (k + count_data bs) m) (with_names (names_of bs) (λ xs. reading_named m r k v xs bs b)) None
+    cond (nat_lt (k + count_data bs) m) (with_names (names_of bs) (λ xs. reading_named m r k (v + length xs) v xs bs b)) None
+
+-- the elements of a list
+abbrev pub elements_of : datum.Tree → Option datum.Trees
+elements_of (datum.At p datum.Nil) = Some datum.none
+elements_of (datum.At p (datum.Truth b)) = None
+elements_of (datum.At p (datum.Fixnum n)) = None
+elements_of (datum.At p (datum.Character c)) = None
+elements_of (datum.At p (datum.String s)) = None
+elements_of (datum.At p (datum.Name x alias)) = None
+elements_of (datum.At p (datum.Proper ds)) = Some ds
+elements_of (datum.At p (datum.Dotted ds d)) = None
+elements_of (datum.At p (datum.Vector ds)) = None
 
 -- data that are not two
 abbrev pub IsNoPair : datum.Trees → Type 0

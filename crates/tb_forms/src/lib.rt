@@ -3,6 +3,7 @@
 #![tactic(auto)]
 
 mod counts;
+mod forms;
 mod head;
 mod laws;
 mod parts;
@@ -11,6 +12,7 @@ mod refusal;
 mod rules_laws;
 mod scope;
 
+pub use forms::forms_of;
 pub use laws::one_meaning;
 pub use refusal::FormRefusal;
 pub use rules_laws::{forms_are_small, forms_keep_rules};

@@ -1,7 +1,7 @@
 ghost use Rattle.std.specs.Prelude.{◌≡◌, [], map, Some, None, MatchOption, IfOk, length};
 ghost use Rattle.tb_core.specs.View.{view, view_core, trees};
 ghost use Rattle.tb_forms.specs.Bounds.{texts};
-ghost use Rattle.tb_forms.specs.Reading.{Gives, IsNoPair, binding_name, bound_name, count_data, names_of, operated, variable_name};
+ghost use Rattle.tb_forms.specs.Reading.{Gives, IsNoPair, binding_name, bound_name, count_data, elements_of, names_of, operated, variable_name};
 ghost use Rattle.tb_forms.specs.declared.head.Head.TheVariants.{Choice, Sequence, Use};
 ghost use Rattle.tb_sexp.specs.Tree as datum;
 ghost use Rattle.tb_sexp.specs.View as data_view;
@@ -55,6 +55,17 @@ fn variable(datum: &Datum) -> Option<&[u8]>
             let name = name.as_slice();
             if is_variable(name) { Some(name) } else { None }
         }
+        _ => None,
+    }
+}
+
+/// The elements, where the datum is a list, also an empty one.
+pub fn list_elements(datum: &Datum) -> Option<&[Datum]>
+    ensures { MatchOption result (elements_of (data_view.view datum.now) ≡ None) (λ elements. elements_of (data_view.view datum.now) ≡ Some (data_view.trees (map data_view.view elements.now))) }
+{
+    match &datum.node {
+        Node::Nil => Some(&[]),
+        Node::List(elements, None) => Some(elements.as_slice()),
         _ => None,
     }
 }

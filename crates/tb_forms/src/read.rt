@@ -11,7 +11,7 @@ ghost use Rattle.tb_sexp.specs.View as data_view;
 
 use super::counts::{Counts, has_room, take_node, take_variables};
 use super::head::{Head, read_head};
-use super::parts::{bound_variables, data_count, first_and_rest, pair, whole};
+use super::parts::{bound_variables, data_count, first_and_rest, list_elements, pair, whole};
 use super::refusal::Unread;
 use super::scope::{Bound, differ, find_number, inner_scope, variable_numbers};
 use sqlite_items::Boxed;
@@ -166,12 +166,9 @@ fn read_let(
 {
     match pair(operands) {
         None => Err(Unread::NotBuilt),
-        Some((bindings, body)) => match &bindings.node {
-            Node::Nil => read_bound(alloc, counts, scope, &[], body),
-            Node::List(elements, None) => {
-                read_bound(alloc, counts, scope, elements.as_slice(), body)
-            }
-            _ => Err(Unread::NotBuilt),
+        Some((bindings, body)) => match list_elements(bindings) {
+            None => Err(Unread::NotBuilt),
+            Some(elements) => read_bound(alloc, counts, scope, elements, body),
         },
     }
 }
@@ -195,24 +192,24 @@ fn read_bound(
     if !differ(names.as_slice()) {
         return Err(Unread::NotBuilt);
     }
-    read_named(alloc, counts, scope, names.as_slice(), bindings, body)
+    let first = take_variables(counts, names.len());
+    read_named(alloc, counts, scope, first, names.as_slice(), bindings, body)
 }
 
-/// A `let` of these names, with these bindings in a list.
+/// A `let` of these names, whose numbers begin with the first, with these bindings in a list.
 #[cycle(read)]
 fn read_named(
     alloc: Global,
     counts: &mut Counts,
     scope: &[Bound],
+    first: VarId,
     names: &[&[u8]],
     bindings: &[Datum],
     body: &Datum,
 ) -> Result<Core, Unread>
-    requires fresh { counts.old.variables + 1000 ≤ 1000 * counts.old.nodes }
-    requires few { length names.now < 1000 }
-    ensures { Reads view_core (reading.reading_named 1000 (scope_in scope.now) counts.old.nodes counts.old.variables (texts names.now) (data_view.trees (map data_view.view bindings.now)) (data_view.view body.now)) result counts.new }
+    requires { first + length names.now < 2 ^ 32 }
+    ensures { Reads view_core (reading.reading_named 1000 (scope_in scope.now) counts.old.nodes counts.old.variables first (texts names.now) (data_view.trees (map data_view.view bindings.now)) (data_view.view body.now)) result counts.new }
 {
-    let first = take_variables(counts, names.len());
     let values = read_bindings(alloc, counts, scope, bindings)?;
     let inner = inner_scope(alloc, scope, names, first)?;
     let body = read_form(alloc, counts, inner.as_slice(), body)?;

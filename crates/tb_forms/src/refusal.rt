@@ -51,18 +51,33 @@ impl<T: Drop> From<AllocFailed<T>> for Unread {
 }
 
 impl From<NoMemory> for FormRefusal {
+    ghost use Rattle.std.specs.Prelude.{◌≡◌};
+    ghost use Rattle.tb_forms.specs.declared.refusal.FormRefusal.TheVariants as refusal;
+
+    ghost from_gives = { λ _ e. e ≡ refusal.NoMemory };
+
     fn from(_: NoMemory) -> FormRefusal {
         FormRefusal::NoMemory
     }
 }
 
 impl From<AllocError> for FormRefusal {
+    ghost use Rattle.std.specs.Prelude.{◌≡◌};
+    ghost use Rattle.tb_forms.specs.declared.refusal.FormRefusal.TheVariants as refusal;
+
+    ghost from_gives = { λ _ e. e ≡ refusal.NoMemory };
+
     fn from(_: AllocError) -> FormRefusal {
         FormRefusal::NoMemory
     }
 }
 
 impl<T: Drop> From<AllocFailed<T>> for FormRefusal {
+    ghost use Rattle.std.specs.Prelude.{◌≡◌};
+    ghost use Rattle.tb_forms.specs.declared.refusal.FormRefusal.TheVariants as refusal;
+
+    ghost from_gives = { λ _ e. e ≡ refusal.NoMemory };
+
     fn from(_: AllocFailed<T>) -> FormRefusal {
         FormRefusal::NoMemory
     }
