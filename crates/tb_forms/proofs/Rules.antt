@@ -1,15 +1,15 @@
 -- The forms of a text keep the rules of programs.
-use Rattle.std.proofs.Common.{◌≡◌, refl, sym, ap, ◌∙◌, subst, ℕ, ◌+◌, ◌<◌, ◌≤◌, ◌^◌, arith, List, [], ◌∷◌, ◌++◌, length, map}
+use Rattle.std.proofs.Common.{sym, ◌∙◌, subst, ◌+◌, ◌<◌, ◌≤◌, ◌^◌, arith, [], length}
 use Rattle.std.proofs.lemmas.List.{append-nil}
 use Rattle.tb_semantics.specs.Graph.{IsApart}
-use Rattle.tb_core.specs.Tree.{Trees, count}
+use Rattle.tb_core.specs.Tree.{Trees}
 use Rattle.tb_core.specs.FreeVariables.{is_assigned, inner_free}
-use Rattle.tb_core.specs.OperandOrder.{lambdas_lines, order_of}
+use Rattle.tb_core.specs.OperandOrder.{lambdas_lines}
 use Rattle.tb_core.specs.Rules.{Every, bound_all, inner_all, KeepsRules}
 use Rattle.tb_core.specs.Width.{nodes_all}
 use Rattle.tb_sexp.specs.Tree as datum
 use Rattle.tb_small.specs.Generate.{program_of}
-use Rattle.tb_forms.specs.Forms.{AreForms, AreAccepted, binders_all}
+use Rattle.tb_forms.specs.Forms.{AreAccepted, binders_all}
 use Rattle.tb_forms.specs.Scopes.{no_names}
 use Rattle.tb_forms.proofs.RulesRuns.{run_apart, run_below, forms_run, forms_fewer}
 use Rattle.tb_forms.proofs.RulesScopes.{forms_closed}

@@ -1,5 +1,5 @@
 -- Forms are built of expressions that have code.
-use Rattle.std.proofs.Common.{◌≡◌, refl, sym, ap, ◌∙◌, subst, ℕ, suc, ◌+◌, ◌-◌, ◌*◌, ◌^◌, ◌<◌, ◌≤◌, arith, Bool, true, false, List, [], ◌∷◌, ◌++◌, length, Some}
+use Rattle.std.proofs.Common.{◌≡◌, refl, ap, ◌∙◌, subst, ℕ, suc, ◌+◌, ◌-◌, ◌*◌, ◌^◌, ◌<◌, arith, Bool, true, false, List, [], ◌++◌, length, Some}
 use Rattle.std.specs.Prelude.{ℤ, pos, negsuc}
 use Rattle.std.proofs.lemmas.Bool.{ltb-true}
 use Rattle.tb_prim.specs.declared.place.Place.{Place}
@@ -7,13 +7,13 @@ use Rattle.tb_prim.specs.declared.constant.Const.{Const}
 use Rattle.tb_prim.specs.declared.primitive.Primitive.{Primitive}
 use Rattle.tb_prim.specs.declared.primitive.Primitive.TheVariants.{WriteChar, Add, Sub, NumEq, Less}
 use Rattle.tb_prim.specs.Primitives.{arity_of}
-use Rattle.tb_core.specs.Tree.{Tree, Node, Form, Quote, Local, If, Let, Seq, PrimUse, Trees, none, more, count, ProgramTree}
+use Rattle.tb_core.specs.Tree.{Tree, Node, Form, If, PrimUse, Trees, none, more, count, ProgramTree}
 use Rattle.tb_core.specs.Effects.{is_fixnum}
 use Rattle.tb_core.specs.FreeVariables.{is_in, is_assigned, targets_all}
 use Rattle.tb_core.specs.OperandOrder.{has_order, operands, line_at, line_of, order_of, HasLine}
 use Rattle.tb_core.specs.Reference.{Context}
 use Rattle.tb_core.specs.Rules.{Each, EachAll, KeepsRules}
-use Rattle.tb_core.specs.Store.{Truth, value_of}
+use Rattle.tb_core.specs.Store.{Truth}
 use Rattle.tb_core.specs.Width.{nodes, nodes_all}
 use Rattle.tb_macm.specs.declared.word.Word.{Word}
 use Rattle.tb_macm.specs.declared.word.Word.TheVariants as W
@@ -23,7 +23,7 @@ use Rattle.tb_small.specs.Built.{word_of, IsBinary, Built, built_quote, built_lo
 use Rattle.tb_small.specs.Compiled.{IsSmall, small_context}
 use Rattle.tb_small.specs.Generate.{program_of, never, bits_of}
 use Rattle.tb_forms.specs.Forms.{IsPrimitive, write_char, plus, minus, equals, less, IsForm, a_truth, a_fixnum, a_character, a_variable, a_let, an_if, a_sequence, a_use, AreForms, no_forms, one_form, AreBindings, no_bindings, one_binding, AreAccepted, binders, binders_all}
-use Rattle.tb_forms.specs.Scopes.{Scope, no_names, bind, numbers_of}
+use Rattle.tb_forms.specs.Scopes.{Scope, no_names, bind}
 use Rattle.tb_forms.proofs.Complete.{as_many_numbers}
 use Rattle.tb_forms.proofs.Rules.{forms_keep_rules}
 use Rattle.tb_forms.proofs.RulesPlain.{forms_plain}

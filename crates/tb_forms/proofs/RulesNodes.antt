@@ -1,10 +1,8 @@
 -- The nodes of forms keep the rules for nodes, and no form is the mark of a variable without a value.
-use Rattle.std.proofs.Common.{◌≡◌, refl, sym, ap, ◌∙◌, subst, ℕ, suc, ◌+◌, ◌<◌, ◌≤◌, ◌^◌, arith, Bool, true, false, List, [], ◌∷◌, ◌++◌, length}
-use Rattle.tb_prim.specs.declared.place.Place.{Place}
-use Rattle.tb_prim.specs.declared.constant.Const.{Const}
-use Rattle.tb_core.specs.Tree.{Tree, Node, Form, Quote, Local, If, Let, Seq, PrimUse, Trees, none, more, count, ProgramTree}
+use Rattle.std.proofs.Common.{◌≡◌, refl, ◌∙◌, ℕ, ◌+◌, ◌<◌, ◌≤◌, ◌^◌, arith, Bool, true, false, List, [], ◌∷◌, length}
+use Rattle.tb_core.specs.Tree.{Tree, Trees, none, more, ProgramTree}
 use Rattle.tb_core.specs.FreeVariables.{is_assigned}
-use Rattle.tb_core.specs.Rules.{Each, EachForm, EachAll, is_mark, NoMark, MarksAssigned, NodeKeeps}
+use Rattle.tb_core.specs.Rules.{Each, EachAll, is_mark, NoMark, MarksAssigned, NodeKeeps}
 use Rattle.tb_core.specs.Width.{nodes, nodes_all}
 use Rattle.tb_sexp.specs.Tree as datum
 use Rattle.tb_forms.specs.Forms.{IsForm, a_truth, a_fixnum, a_character, a_variable, a_let, an_if, a_sequence, a_use, AreForms, no_forms, one_form, AreBindings, no_bindings, one_binding, binders, binders_all}

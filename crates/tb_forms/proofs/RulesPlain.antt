@@ -1,8 +1,8 @@
 -- Forms have no lambda expressions and no assignments, and no more nodes than expressions.
-use Rattle.std.proofs.Common.{◌≡◌, refl, sym, ap, ◌∙◌, ℕ, ◌+◌, ◌≤◌, arith, List, [], ◌∷◌, ◌++◌, length}
+use Rattle.std.proofs.Common.{◌≡◌, refl, sym, ap, ◌∙◌, ℕ, ◌+◌, arith, List, [], ◌++◌, length}
 use Rattle.std.proofs.lemmas.List.{append-nil}
 use Rattle.tb_prim.specs.declared.place.Place.{Place}
-use Rattle.tb_core.specs.Tree.{Tree, Node, Form, Quote, Local, If, Let, Seq, PrimUse, Trees, none, more, count}
+use Rattle.tb_core.specs.Tree.{Tree, Node, If, Trees, none, more}
 use Rattle.tb_core.specs.FreeVariables.{targets, targets_all}
 use Rattle.tb_core.specs.Rules.{inner, inner_all, size, size_all}
 use Rattle.tb_core.specs.Width.{nodes, nodes_all}

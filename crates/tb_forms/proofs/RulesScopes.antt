@@ -1,17 +1,16 @@
 -- The free variables of a form are numbers of names in its scope.
 use Rattle.std.proofs.Common.{◌≡◌, refl, sym, ap, ◌∙◌, subst, ℕ, ◌+◌, ◌⊎◌, inl, inr, ⊎_elim, Bool, true, false, cond, not, List, [], ◌∷◌, ◌++◌, length, Option, Some, None}
 use Rattle.std.specs.Prelude.{bytes_eq}
-use Rattle.std.proofs.lemmas.Bool.{cases_Bool}
 use Rattle.std.proofs.lemmas.List.{append-nil}
 use Rattle.std.proofs.lemmas.Option.{same_Some}
 use Rattle.tb_semantics.specs.Graph.{IsIn}
-use Rattle.tb_core.specs.Tree.{Tree, Node, Form, Quote, Local, If, Let, Seq, PrimUse, Trees, none, more, count}
+use Rattle.tb_core.specs.Tree.{Tree, Trees, none, more}
 use Rattle.tb_core.specs.FreeVariables.{is_in, without, free, free_all}
 use Rattle.tb_core.specs.Width.{nodes, nodes_all}
-use Rattle.tb_core.proofs.Members.{in-either, in-right, in-left, tested-in, without-sub}
+use Rattle.tb_core.proofs.Members.{in-either, tested-in, without-sub}
 use Rattle.tb_sexp.specs.Tree as datum
 use Rattle.tb_forms.specs.Forms.{IsForm, a_truth, a_fixnum, a_character, a_variable, a_let, an_if, a_sequence, a_use, AreForms, no_forms, one_form, AreBindings, no_bindings, one_binding, binders, binders_all}
-use Rattle.tb_forms.specs.Scopes.{Scope, no_names, named, number_in, bind, numbers_of}
+use Rattle.tb_forms.specs.Scopes.{Scope, no_names, number_in, bind, numbers_of}
 
 -- the number of a name in scope
 abbrev IsKnown : Scope → ℕ → Type 0

@@ -1,9 +1,9 @@
 -- The lines of the order of forms have numbers that ascend, within those of their nodes.
-use Rattle.std.proofs.Common.{◌≡◌, refl, sym, ap, ◌∙◌, subst, ℕ, ◌+◌, ◌<◌, ◌≤◌, inl, inr, arith, Bool, List, [], ◌∷◌, ◌++◌, length, map}
+use Rattle.std.proofs.Common.{subst, ℕ, ◌+◌, ◌≤◌, inl, inr, arith, Bool, List, [], ◌∷◌, ◌++◌, length, map}
 use Rattle.std.proofs.lemmas.List.{append-nil}
 use Rattle.tb_semantics.specs.Graph.{IsIn, IsApart}
-use Rattle.tb_core.specs.Tree.{Tree, Node, Form, Quote, Local, If, Let, Seq, PrimUse, Trees, none, more, count}
-use Rattle.tb_core.specs.OperandOrder.{Line, lines, lines_form, lines_all}
+use Rattle.tb_core.specs.Tree.{Tree, Trees, none, more}
+use Rattle.tb_core.specs.OperandOrder.{Line, lines, lines_all}
 use Rattle.tb_core.specs.Width.{nodes, nodes_all}
 use Rattle.tb_sexp.specs.Tree as datum
 use Rattle.tb_forms.specs.Forms.{IsForm, a_truth, a_fixnum, a_character, a_variable, a_let, an_if, a_sequence, a_use, AreForms, no_forms, one_form, AreBindings, no_bindings, one_binding, binders, binders_all}

@@ -1,6 +1,3 @@
-use tb_core::order_at_nodes;
-use tb_macm::immediates_are_read_back;
-
 ghost use Rattle.std.specs.Prelude.{ℕ};
 ghost use Rattle.tb_core.specs.Rules.{KeepsRules};
 ghost use Rattle.tb_core.specs.Tree.{Trees};
@@ -9,13 +6,16 @@ ghost use Rattle.tb_sexp.specs.Tree as datum;
 ghost use Rattle.tb_small.specs.Compiled.{IsSmall};
 ghost use Rattle.tb_small.specs.Generate.{program_of};
 
+use tb_core::order_at_nodes;
+use tb_macm::immediates_are_read_back;
+
 /// The expressions of a text keep the rules of programs.
 pub fn forms_keep_rules()
     ensures law { (ds : datum.Trees) (es : Trees) → AreAccepted ds es → KeepsRules (program_of es) }
 {}
 
-/// The expressions of a text are such as have code: built of those that have, in the order of the program, closed,
-/// and at most 1,000.
+/// The expressions of a text have code: they are built of expressions that have it, with the order of their program,
+/// name no variable that is not bound in them, and are at most 1,000.
 pub fn forms_are_small()
     ensures law { (ds : datum.Trees) (es : Trees) → AreAccepted ds es → IsSmall es }
 {
