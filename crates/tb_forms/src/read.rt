@@ -60,11 +60,7 @@ fn let_core(
 {
     let variables = variable_numbers(alloc, names, first)?;
     let body = Boxed::new(alloc, body)?;
-    Ok(Core::Let(
-        Row::from_vec(variables),
-        Row::from_vec(values),
-        body,
-    ))
+    Ok(Core::Let(Row::from_vec(variables), Row::from_vec(values), body))
 }
 
 /// Reads a datum as an expression. The recursion is as deep as the datum nests.
@@ -193,7 +189,15 @@ fn read_bound(
         return Err(Unread::NotBuilt);
     }
     let first = take_variables(counts, names.len());
-    read_named(alloc, counts, scope, first, names.as_slice(), bindings, body)
+    read_named(
+        alloc,
+        counts,
+        scope,
+        first,
+        names.as_slice(),
+        bindings,
+        body,
+    )
 }
 
 /// A `let` of these names, whose numbers begin with the first, with these bindings in a list.

@@ -42,9 +42,11 @@ struct Run<'a> {
 fn check_run(alloc: Global, run: &Run) -> Result<bool, Fail> {
     let go = ["go", "mac", "a.scm", "4096", "100000"];
     let outcome = called(alloc, &go, run.text, &[], &[])?;
-    Ok(outcome.status == run.status
-        && outcome.out.held() == run.out
-        && outcome.diag.held() == run.diag)
+    Ok(
+        outcome.status == run.status
+            && outcome.out.held() == run.out
+            && outcome.diag.held() == run.diag,
+    )
 }
 
 #[test]
