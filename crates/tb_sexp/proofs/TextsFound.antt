@@ -1,5 +1,5 @@
 -- What reading answers about a text is what the grammar says of it.
-use Rattle.std.proofs.Common.{◌≡◌, ◌≢◌, ℕ, suc, ◌≤◌, Bool, true, false, List, [], ◌∷◌, ◌++◌, length, take, drop, refl, sym, ap, ◌∙◌, subst, arith, take-append-drop}
+use Rattle.std.proofs.Common.{◌≡◌, ℕ, suc, ◌≤◌, Bool, true, false, List, [], ◌∷◌, ◌++◌, length, take, drop, refl, sym, ap, ◌∙◌, subst, arith, take-append-drop}
 use Rattle.std.specs.Prelude.{cond, Result, Ok, Err}
 use Rattle.std.proofs.lemmas.List.{take_at, drop_at}
 use Rattle.tb_prim.specs.declared.place.Place.{Place}
@@ -8,16 +8,16 @@ use Rattle.tb_sexp.specs.declared.token.Token.{Token}
 use Rattle.tb_sexp.specs.declared.token.Token.TheVariants as token
 use Rattle.tb_sexp.specs.declared.token.Fault.{Fault}
 use Rattle.tb_sexp.specs.declared.refusal.ReadRefusal.{ReadRefusal}
-use Rattle.tb_sexp.specs.declared.refusal.ReadRefusal.TheVariants.{Syntax, TooDeep, Unclosed}
-use Rattle.tb_sexp.specs.Blanks.{Blank, BlankEnd, IsNoBlank}
+use Rattle.tb_sexp.specs.declared.refusal.ReadRefusal.TheVariants.{Syntax}
+use Rattle.tb_sexp.specs.Blanks.{Blank, BlankEnd}
 use Rattle.tb_sexp.specs.Bytes.{blanks}
-use Rattle.tb_sexp.specs.Frames.{Frame, InMark, State}
+use Rattle.tb_sexp.specs.Frames.{Frame, State}
 use Rattle.tb_sexp.specs.Grammar.{Placed, placed, of_bool, CanGoOn, CanGoOnSomehow, EndsWith, Reaches, start, one_more}
 use Rattle.tb_sexp.specs.Lexing.{token_at}
 use Rattle.tb_sexp.specs.Places.{text_start, behind_all}
-use Rattle.tb_sexp.specs.Reading.{takes_datum, accept, failed, refusal_of, finish}
-use Rattle.tb_sexp.specs.Runs.{with_size, with_token, take_token, ReadsFrom, blank, refused, taken, nothing}
-use Rattle.tb_sexp.specs.Texts.{Begins, no_tokens, one_token, HasTokens, IsText, StandsBefore, NextToken, TakesDatum, IsMarkAlone, mark_alone, IsRefused, no_front, a_mark_alone, too_deep, faulty, out_of_place, unclosed, levels}
+use Rattle.tb_sexp.specs.Reading.{takes_datum, accept, failed, refusal_of}
+use Rattle.tb_sexp.specs.Runs.{with_size, with_token, ReadsFrom, blank, refused, taken, nothing}
+use Rattle.tb_sexp.specs.Texts.{Begins, no_tokens, one_token, IsText, StandsBefore, NextToken, IsMarkAlone, mark_alone, IsRefused, no_front, a_mark_alone, too_deep, faulty, out_of_place, unclosed}
 use Rattle.tb_sexp.specs.Tokens.{Spells, EndsAt, TokenAt, Faulty}
 use Rattle.tb_sexp.specs.Tree.{Tree, Truth}
 use Rattle.tb_sexp.proofs.GrammarEnds.{Ends, ends_whole, ends_at_mark, ends_open, ended}

@@ -1,5 +1,5 @@
 -- What the grammar says of a text is what reading answers.
-use Rattle.std.proofs.Common.{◌≡◌, ◌≢◌, inl, inr, ℕ, Bool, true, false, List, [], ◌∷◌, ◌++◌, length, refl, sym, ap, ◌∙◌, subst, append_assoc, append-nil}
+use Rattle.std.proofs.Common.{◌≡◌, inl, inr, ℕ, Bool, true, false, List, [], ◌∷◌, ◌++◌, refl, sym, ap, ◌∙◌, subst, append_assoc, append-nil}
 use Rattle.std.specs.Prelude.{cond, Result, Ok, Err}
 use Rattle.tb_prim.specs.declared.place.Place.{Place}
 use Rattle.tb_sexp.specs.declared.token.Mark.{Mark}
@@ -7,11 +7,10 @@ use Rattle.tb_sexp.specs.declared.token.Token.{Token}
 use Rattle.tb_sexp.specs.declared.token.Token.TheVariants as token
 use Rattle.tb_sexp.specs.declared.token.Fault.{Fault}
 use Rattle.tb_sexp.specs.declared.refusal.ReadRefusal.{ReadRefusal}
-use Rattle.tb_sexp.specs.declared.refusal.ReadRefusal.TheVariants.{Syntax, TooDeep, Unclosed}
+use Rattle.tb_sexp.specs.declared.refusal.ReadRefusal.TheVariants.{Syntax, Unclosed}
 use Rattle.tb_sexp.specs.Blanks.{Blank, BlankEnd}
-use Rattle.tb_sexp.specs.Bytes.{blanks}
-use Rattle.tb_sexp.specs.Frames.{Frame, InMark, State}
-use Rattle.tb_sexp.specs.Grammar.{Placed, placed, of_bool, AreData, CanGoOn, CanGoOnSomehow, EndsWith, OpenedLast, Reaches, start, one_more}
+use Rattle.tb_sexp.specs.Frames.{State}
+use Rattle.tb_sexp.specs.Grammar.{Placed, placed, of_bool, AreData, CanGoOn, OpenedLast, Reaches, start, one_more}
 use Rattle.tb_sexp.specs.Places.{text_start, behind_all}
 use Rattle.tb_sexp.specs.Reading.{takes_datum, accept, failed, refusal_of, finish}
 use Rattle.tb_sexp.specs.Runs.{ReadsFrom, nothing}

@@ -1,5 +1,5 @@
 -- Texts in parts, and one turn of reading: blanks, and then the end of the text, a token or a fault.
-use Rattle.std.proofs.Common.{◌≡◌, ℕ, ◌≤◌, ◌<◌, List, [], ◌∷◌, ◌++◌, length, take, drop, refl, sym, ap, ◌∙◌, subst, arith, take-append-drop}
+use Rattle.std.proofs.Common.{◌≡◌, ℕ, List, [], ◌∷◌, ◌++◌, length, take, drop, refl, sym, ap, ◌∙◌, subst, arith}
 use Rattle.std.specs.Prelude.{Bool, Result, Ok, Err}
 use Rattle.std.proofs.lemmas.List.{take_at, drop_at, drop_all}
 use Rattle.tb_prim.specs.declared.place.Place.{Place}
@@ -10,12 +10,11 @@ use Rattle.tb_sexp.specs.Blanks.{Blank, BlankEnd, IsNoBlank, BeginsNoBlank}
 use Rattle.tb_sexp.specs.Bytes.{blanks}
 use Rattle.tb_sexp.specs.Frames.{State}
 use Rattle.tb_sexp.specs.Grammar.{Placed, placed, CanGoOn}
-use Rattle.tb_sexp.specs.Lexing.{token_at}
 use Rattle.tb_sexp.specs.Places.{text_start, behind, behind_all}
 use Rattle.tb_sexp.specs.Reading.{accept, failed, finish}
 use Rattle.tb_sexp.specs.Runs.{with_size, with_token, take_token, ReadsFrom, blank, refused, taken}
 use Rattle.tb_sexp.specs.Texts.{Begins, no_tokens, one_token, NextToken, levels}
-use Rattle.tb_sexp.specs.Tokens.{Spells, EndsAt, TokenAt, Faulty}
+use Rattle.tb_sexp.specs.Tokens.{Spells, EndsAt, Faulty}
 use Rattle.tb_sexp.specs.Tree.{Tree}
 use Rattle.tb_sexp.proofs.TokensApart.{faulty_only, word_begins}
 use Rattle.tb_sexp.proofs.TokensBlanks.{front_only, end_found, end_only}
