@@ -1,5 +1,5 @@
 -- What is an expression is read as that expression, where there is room for it.
-use Rattle.std.proofs.Common.{◌≡◌, refl, sym, ap, ◌∙◌, subst, ℕ, suc, ◌+◌, ◌<◌, ◌≤◌, arith, nat_lt, Bool, true, false, cond, ◌==◌, ◌&&◌, List, [], ◌∷◌, ◌++◌, length, length-append, Option, Some, None}
+use Rattle.std.proofs.Common.{◌≡◌, refl, sym, ap, ◌∙◌, ℕ, ◌+◌, ◌<◌, ◌≤◌, arith, nat_lt, cond, List, [], ◌∷◌, ◌++◌, length, length-append, Option, Some, None}
 use Rattle.std.specs.Prelude.{codes}
 use Rattle.std.proofs.lemmas.Bool.{lt-ltb, eq-eqb}
 use Rattle.tb_prim.specs.declared.primitive.Primitive.{Primitive}
@@ -9,14 +9,13 @@ use Rattle.tb_prim.specs.declared.constant.Const.{Const}
 use Rattle.tb_core.specs.Tree.{Tree, Node, Form, Quote, Local, If, Let, Seq, PrimUse, Trees, none, more, count}
 use Rattle.tb_core.specs.Width.{nodes, nodes_all}
 use Rattle.tb_core.specs.Rules.{bound, bound_all}
-use Rattle.tb_core.specs.Effects.{is_fixnum}
 use Rattle.tb_sexp.specs.Tree as datum
 use Rattle.tb_forms.specs.Forms.{IsForm, a_truth, a_fixnum, a_character, a_variable, a_let, an_if, a_sequence, a_use, AreForms, no_forms, one_form, AreBindings, no_bindings, one_binding, IsPrimitive, write_char, plus, minus, equals, less, IsListOf, empty, elements, headed, binders, binders_all}
-use Rattle.tb_forms.specs.Heads.{head_of, head_of_name}
+use Rattle.tb_forms.specs.Heads.{head_of_name}
 use Rattle.tb_forms.specs.declared.head.Head.{Head}
-use Rattle.tb_forms.specs.declared.head.Head.TheVariants.{Binding, Choice, Sequence, Use, Unknown}
-use Rattle.tb_forms.specs.Reading.{Read, then, gives, given, by_head, operated, of_number, with_names, names_in, names_of, with_name, variable_name, binding_name, count_in, count_data, reading, reading_shape, reading_list, reading_let, reading_all, reading_values, reading_bindings}
-use Rattle.tb_forms.specs.Scopes.{Scope, number_in, bind, numbers_of, is_variable, differ}
+use Rattle.tb_forms.specs.declared.head.Head.TheVariants.{Binding, Choice, Sequence, Use}
+use Rattle.tb_forms.specs.Reading.{Read, then, gives, given, by_head, operated, of_number, with_names, names_in, names_of, with_name, count_in, count_data, reading, reading_shape, reading_let, reading_all, reading_values, reading_bindings}
+use Rattle.tb_forms.specs.Scopes.{Scope, bind, numbers_of}
 
 use_head : {x : List ℕ} {pr : Primitive} → IsPrimitive x pr → head_of_name x ≡ Use pr
 use_head write_char = refl

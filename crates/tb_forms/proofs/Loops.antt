@@ -1,10 +1,9 @@
 -- Reading data one after another, and the parts of a `let`.
-use Rattle.std.proofs.Common.{◌≡◌, refl, sym, ap, ◌∙◌, subst, ℕ, zero, suc, ◌+◌, ◌<◌, ◌≤◌, arith, nat_lt, Bool, true, false, cond, List, [], ◌∷◌, ◌++◌, length, map, drop, drop-cons, get_or, append_assoc, add-one, Option, Some, None, Bor, Result, Ok, Err}
+use Rattle.std.proofs.Common.{◌≡◌, refl, sym, ap, ◌∙◌, subst, ℕ, zero, suc, ◌+◌, ◌<◌, ◌≤◌, arith, nat_lt, Bool, true, false, cond, List, [], ◌∷◌, ◌++◌, length, map, drop, drop-cons, get_or, append_assoc, add-one, Option, Some, None, Bor, Result}
 use Rattle.std.proofs.lemmas.List.{map-append}
 use Rattle.tb_core.specs.declared.expr.Expr.{Expr}
-use Rattle.tb_core.specs.declared.expr.Core.{Core}
-use Rattle.tb_core.specs.Tree.{Tree, Form, Trees, none, more}
-use Rattle.tb_core.specs.View.{view, view_core, trees}
+use Rattle.tb_core.specs.Tree.{Tree, Trees, none, more}
+use Rattle.tb_core.specs.View.{view, trees}
 use Rattle.tb_sexp.specs.declared.datum.Datum.{Datum}
 use Rattle.tb_sexp.specs.Tree as datum
 use Rattle.tb_sexp.specs.View as data_view

@@ -5,7 +5,7 @@ use Rattle.tb_prim.specs.declared.primitive.Primitive.{Primitive}
 use Rattle.tb_prim.specs.Primitives.{arity_of}
 use Rattle.tb_core.specs.declared.expr.Expr.{Expr}
 use Rattle.tb_core.specs.declared.expr.Core.TheVariants as code
-use Rattle.tb_core.specs.Tree.{Seq, PrimUse, count}
+use Rattle.tb_core.specs.Tree.{PrimUse, count}
 use Rattle.tb_core.specs.View.{view, view_core, trees}
 use Rattle.tb_core.proofs.Views.{view_seq, view_prim, count_view}
 use Rattle.tb_sexp.specs.declared.datum.Datum.{Datum}

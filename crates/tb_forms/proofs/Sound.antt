@@ -1,5 +1,5 @@
 -- What is read as an expression is that expression, and the numbers that come next are behind its own.
-use Rattle.std.proofs.Common.{◌≡◌, ◌≢◌, refl, sym, ap, ◌∙◌, subst, ℕ, suc, ◌+◌, ◌<◌, ◌≤◌, arith, nat_lt, Bool, true, false, cond, ◌==◌, ◌&&◌, List, [], ◌∷◌, ◌++◌, length, Option, Some, None, eqb-true}
+use Rattle.std.proofs.Common.{◌≡◌, ◌≢◌, refl, sym, ap, ◌∙◌, subst, ℕ, ◌+◌, arith, nat_lt, Bool, true, false, cond, ◌==◌, ◌&&◌, List, [], ◌∷◌, length, Option, Some, None, eqb-true}
 use Rattle.std.specs.Prelude.{codes, bytes_eq}
 use Rattle.std.proofs.lemmas.Bool.{ltb-true}
 use Rattle.std.proofs.lemmas.Slice.Eq.{bytes_eq-Decides}
@@ -7,14 +7,13 @@ use Rattle.tb_prim.specs.declared.primitive.Primitive.{Primitive}
 use Rattle.tb_prim.specs.declared.primitive.Primitive.TheVariants.{WriteChar, Add, Sub, NumEq, Less}
 use Rattle.tb_prim.specs.Primitives.{arity_of}
 use Rattle.tb_prim.specs.declared.place.Place.{Place}
-use Rattle.tb_prim.specs.declared.constant.Const.{Const}
-use Rattle.tb_core.specs.Tree.{Tree, Node, Form, Quote, Local, If, Let, Seq, PrimUse, Trees, none, more, count}
+use Rattle.tb_core.specs.Tree.{Tree, Node, Form, Local, If, Let, Seq, PrimUse, Trees, none, more, count}
 use Rattle.tb_core.specs.Width.{nodes, nodes_all, nodes_form}
-use Rattle.tb_core.specs.Rules.{bound, bound_all, bound_form}
+use Rattle.tb_core.specs.Rules.{bound_form}
 use Rattle.tb_core.specs.Effects.{is_fixnum}
 use Rattle.tb_sexp.specs.Tree as datum
 use Rattle.tb_forms.specs.Forms.{IsForm, a_truth, a_fixnum, a_character, a_variable, a_let, an_if, a_sequence, a_use, AreForms, no_forms, one_form, AreBindings, no_bindings, one_binding, IsPrimitive, write_char, plus, minus, equals, less, IsListOf, empty, elements, headed, binders, binders_all}
-use Rattle.tb_forms.specs.Heads.{head_of, head_of_name, primitive_head_of}
+use Rattle.tb_forms.specs.Heads.{head_of, head_of_name}
 use Rattle.tb_forms.specs.declared.head.Head.{Head}
 use Rattle.tb_forms.specs.declared.head.Head.TheVariants.{Binding, Choice, Sequence, Use, Unknown}
 use Rattle.tb_forms.specs.Reading.{Read, then, gives, given, by_head, operated, of_number, with_names, names_in, names_of, with_name, variable_name, binding_name, bound_name, count_in, reading, reading_shape, reading_list, reading_let, reading_all, reading_values, reading_bindings, reading_binding, reading_pair, reading_second}

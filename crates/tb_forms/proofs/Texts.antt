@@ -1,7 +1,6 @@
 -- The data of a text, read one after another from its front.
-use Rattle.std.proofs.Common.{◌≡◌, refl, sym, ap, ◌∙◌, subst, ℕ, zero, suc, ◌+◌, ◌<◌, ◌≤◌, ◌⊎◌, inl, inr, ⊎_elim, arith, List, [], ◌∷◌, ◌++◌, length, map, take, drop, drop-cons, get_or, append_assoc, add-one, Option, Some, None}
+use Rattle.std.proofs.Common.{◌≡◌, refl, sym, ap, ◌∙◌, ℕ, zero, suc, ◌+◌, ◌<◌, ◌≤◌, ⊎_elim, arith, List, [], ◌∷◌, ◌++◌, length, map, take, drop, get_or, add-one, Option, Some, None}
 use Rattle.std.proofs.lemmas.Bool.{cases_lt}
-use Rattle.tb_prim.specs.declared.place.Place.{Place}
 use Rattle.tb_core.specs.declared.expr.Expr.{Expr}
 use Rattle.tb_core.specs.Tree.{Tree, Trees, none, more}
 use Rattle.tb_core.specs.View.{view, trees}
@@ -11,14 +10,14 @@ use Rattle.tb_sexp.specs.declared.datum.Node.TheFolds.{fold_out-Datum}
 use Rattle.tb_sexp.specs.declared.datum.Datum.{Datum}
 use Rattle.tb_sexp.specs.Tree as datum
 use Rattle.tb_sexp.specs.View as data_view
-use Rattle.tb_forms.specs.Forms.{IsForm, AreForms, AreAccepted, FirstNotBuilt, joined, binders_all}
+use Rattle.tb_forms.specs.Forms.{IsForm, AreAccepted, FirstNotBuilt, joined, binders_all}
 use Rattle.tb_forms.specs.declared.refusal.Unread.{Unread}
 use Rattle.tb_forms.specs.declared.refusal.Unread.TheVariants as unread
 use Rattle.tb_forms.specs.Refusals.{IsRefusal, refusal_of}
 use Rattle.tb_forms.specs.Reading.{Read, then, gives, Fails, reading, reading_all}
 use Rattle.tb_forms.specs.Scopes.{Scope, no_names}
-use Rattle.tb_forms.proofs.Complete.{form_read}
-use Rattle.tb_forms.proofs.Sound.{SoundAll, all_sound}
+use Rattle.tb_forms.proofs.Complete.{form_read, forms_read}
+use Rattle.tb_forms.proofs.Sound.{all_sound}
 
 -- expressions, and one behind them
 abbrev last : Trees → Tree → Trees
@@ -72,7 +71,7 @@ take_all [] (suc i) h = refl
 take_all (x ∷ xs) zero h = absurd (omega arith)
 take_all (x ∷ xs) (suc i) h = ap (λ ys. x ∷ ys) (take_all xs i (omega arith))
 
-accepted : (ds : datum.Trees) (es : Trees) (k v : ℕ) → k ≤ 1000 → reading_all 1000 no_names 0 0 ds ≡ gives es k v → AreAccepted ds es
+pub accepted : (ds : datum.Trees) (es : Trees) (k v : ℕ) → k ≤ 1000 → reading_all 1000 no_names 0 0 ds ≡ gives es k v → AreAccepted ds es
 accepted ds es k v few h =
     let s = all_sound 1000 no_names 0 0 ds _ h in
     let n = s.node in
@@ -114,3 +113,10 @@ pub text_fails : (ds : List Datum) (i k v : ℕ) (d : Datum) (es : List Expr) (u
     Fails u (reading 1000 no_names k v (data_view.view d)) → IsRefusal (data_view.trees (map data_view.view ds)) (refusal_of u d.place)
 text_fails ds i k v d es unread.NotBuilt lt is few h n = text_refused ds i k v d es lt is few h n
 text_fails ds i k v d es unread.NoMemory lt is few h n = tt
+
+some_apart : {X : Type 0} (x : X) → None ≡ Some x → ⊥
+some_apart x e = cc
+
+-- data that are not read are not accepted
+pub not_accepted : (ds : datum.Trees) → reading_all 1000 no_names 0 0 ds ≡ None → (es : Trees) → AreAccepted ds es → ⊥
+not_accepted ds n es a = let few = a.few in some_apart _ (sym n ∙ forms_read 1000 no_names 0 0 ds es a.forms (omega arith))

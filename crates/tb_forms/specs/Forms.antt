@@ -5,7 +5,7 @@ use Rattle.tb_prim.specs.declared.constant.Const.{Const}
 use Rattle.tb_prim.specs.declared.primitive.Primitive.{Primitive}
 use Rattle.tb_prim.specs.declared.primitive.Primitive.TheVariants.{WriteChar, Add, Sub, NumEq, Less}
 use Rattle.tb_prim.specs.Primitives.{arity_of}
-use Rattle.tb_core.specs.Tree.{Tree, Node, Form, Quote, Local, If, Let, Seq, PrimUse, Trees, none, more, count}
+use Rattle.tb_core.specs.Tree.{Tree, Node, Quote, Local, If, Let, Seq, PrimUse, Trees, none, more, count}
 use Rattle.tb_core.specs.Width.{nodes, nodes_all}
 use Rattle.tb_core.specs.Rules.{bound, bound_all}
 use Rattle.tb_core.specs.Effects.{is_fixnum}

@@ -5,3 +5,4 @@ pub mod Reading
 pub mod Bounds
 pub mod Weights
 pub mod Refusals
+pub mod Examples

@@ -1,7 +1,6 @@
 -- Reading data as expressions, up to so many expressions in all: what is read, with the numbers that come next, or
 -- nothing.
-use Rattle.std.specs.Prelude.{◌≡◌, ℕ, ◌+◌, ◌==◌, nat_lt, ◌&&◌, Bool, true, false, cond, List, [], ◌∷◌, ◌++◌, Option, Some, None, Result, Ok, Err, length}
-use Rattle.tb_prim.specs.declared.place.Place.{Place}
+use Rattle.std.specs.Prelude.{◌≡◌, ℕ, ◌+◌, ◌==◌, nat_lt, ◌&&◌, cond, List, [], ◌∷◌, ◌++◌, Option, Some, None, Result, Ok, Err, length}
 use Rattle.tb_prim.specs.declared.constant.Const.{Const}
 use Rattle.tb_prim.specs.Primitives.{arity_of}
 use Rattle.tb_core.specs.Tree.{Tree, Node, Form, Quote, Local, If, Let, Seq, PrimUse, Trees, none, more, count}

@@ -1,5 +1,5 @@
 -- Names and their numbers.
-use Rattle.std.specs.Prelude.{ℕ, suc, ◌+◌, nat_le, ◌&&◌, ◌||◌, not, Bool, true, false, cond, List, [], ◌∷◌, Option, Some, None, length, codes, bytes_eq}
+use Rattle.std.specs.Prelude.{ℕ, ◌+◌, nat_le, ◌&&◌, ◌||◌, not, Bool, true, cond, List, [], ◌∷◌, Option, Some, None, length, codes, bytes_eq}
 use Rattle.std.specs.List.{list_all, list_any}
 
 -- names with the numbers of their variables, the newest first

@@ -1,5 +1,5 @@
-use Rattle.std.proofs.Common.{◌≡◌, ◌∙◌, ap, sym, arith, map, ℕ, List, Some}
-use Rattle.tb_core.specs.View.{view, view_core}
+use Rattle.std.proofs.Common.{◌∙◌, ap, sym, arith, ℕ, List, Some}
+use Rattle.tb_core.specs.View.{view_core}
 use Rattle.tb_sexp.specs.View as data_view
 use Rattle.tb_forms.specs.Bounds.{scope_in, texts}
 use Rattle.tb_forms.specs.Scopes.{differ}
