@@ -13,5 +13,6 @@ pub mod NeverLost
 pub mod Views
 pub mod Judging
 pub mod TotalWidths
+pub mod FirstUses
 pub mod FreeByNumber
 pub mod LinesByNumber

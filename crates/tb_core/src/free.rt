@@ -1,4 +1,5 @@
-ghost use Rattle.std.specs.Prelude.{◌≡◌, ◌+◌, ◌<◌, ◌++◌, [], ◌∷◌, length, map, drop, IfOk, OnOk};
+ghost use Rattle.std.specs.Prelude.{◌≡◌, ◌+◌, ◌<◌, ◌++◌, ℕ, [], ◌∷◌, length, map, drop, nat_eq, IfOk, OnOk};
+ghost use Rattle.indexmap.specs.IndexSet.{contains};
 ghost use Rattle.tb_core.specs.FreeVariables as spec;
 ghost use Rattle.tb_core.specs.FreeVariables.{lambdas_free, of_lambdas};
 ghost use Rattle.tb_core.specs.FirstUses.{first_of, free_in_order};
@@ -7,6 +8,7 @@ ghost use Rattle.tb_core.specs.View.{view, trees, view_lambda, view_program};
 
 use super::limits::after;
 use super::{Core, Expr, Lambda, LambdaId, Program, VarId, VarRow};
+use indexmap::IndexSet;
 use std::alloc::Global;
 use tb_prim::{NoMemory, Row};
 
@@ -17,18 +19,30 @@ fn put(out: &mut Vec<VarId>, variable: VarId) -> Result<(), NoMemory>
     Ok(())
 }
 
-fn is_in(variables: &[VarId], variable: VarId) -> bool
-    ensures { result ≡ spec.is_in variables.now variable }
+/// The set of these variables, in the order of their first places.
+fn set_of(alloc: Global, variables: &[VarId]) -> Result<IndexSet<VarId>, NoMemory>
+    ensures keys { IfOk result (λ set. set.keys ≡ first_of [] variables.now) }
+    ensures members { IfOk result (λ set. (x : ℕ) → contains nat_eq set x ≡ spec.is_in variables.now x) }
 {
-    variables.iter().any(|other| *other == variable)
+    let mut set = IndexSet::new(alloc);
+    for variable in variables {
+        set.insert(*variable)?;
+    }
+    Ok(set)
 }
 
 /// Puts those of the second list that are not in the first.
-fn put_without(out: &mut Vec<VarId>, bound: &[VarId], variables: &[VarId]) -> Result<(), NoMemory>
+fn put_without(
+    alloc: Global,
+    out: &mut Vec<VarId>,
+    bound: &[VarId],
+    variables: &[VarId],
+) -> Result<(), NoMemory>
     ensures { OnOk result (out.new.items ≡ out.old.items ++ spec.without bound.now variables.now) }
 {
+    let bound = set_of(alloc, bound)?;
     for variable in variables {
-        if !is_in(bound, *variable) {
+        if !bound.contains(variable) {
             put(out, *variable)?;
         }
     }
@@ -145,7 +159,7 @@ fn put_outer(
         put_lambda(alloc, lambdas, first, &mut inside, *number)?;
     }
     put_free(alloc, lambdas, first, &mut inside, body)?;
-    put_without(out, bound, inside.as_slice())
+    put_without(alloc, out, bound, inside.as_slice())
 }
 
 /// The same of a lambda expression by its number.
@@ -175,20 +189,15 @@ fn put_lambda(
         &mut inside,
         &lambda.body,
     )?;
-    put_without(out, bound.as_slice(), inside.as_slice())
+    put_without(alloc, out, bound.as_slice(), inside.as_slice())
 }
 
 /// The list with each variable at its first place alone.
 fn first_uses(alloc: Global, variables: &[VarId]) -> Result<Vec<VarId>, NoMemory>
     ensures { IfOk result (λ out. out.items ≡ first_of [] variables.now) }
 {
-    let mut out = Vec::new(alloc);
-    for variable in variables {
-        if !is_in(out.as_slice(), *variable) {
-            put(&mut out, *variable)?;
-        }
-    }
-    Ok(out)
+    let set = set_of(alloc, variables)?;
+    Ok(Vec::from_slice(alloc, set.as_slice())?)
 }
 
 /// The free variables of a lambda expression of the program, each once, in the order of their first use.

@@ -1,9 +1,10 @@
-ghost use Rattle.std.specs.Prelude.{◌≡◌, ◌≤◌, ℕ, ◌+◌, List, Option, Some, None, true, false, slice_get};
+ghost use Rattle.std.specs.Prelude.{◌≡◌, ◌≤◌, ℕ, ◌+◌, ◌++◌, [], List, Option, Some, None, true, false, slice_get};
 ghost use Rattle.tb_prim.specs.declared.event.Event.{Event};
-ghost use Rattle.tb_semantics.specs.Graph.{ListsReachable, sum_of};
+ghost use Rattle.tb_semantics.specs.Graph.{IsApart, ListsReachable, sum_of};
 ghost use Rattle.tb_semantics.specs.Runs.{EmitsInOrder, IsPrefix, after};
 ghost use Rattle.tb_core.specs.Events.{ComesToCall, EndsLast, IsNotLost};
-ghost use Rattle.tb_core.specs.FreeVariables.{inner_free, is_in, lambda_free};
+ghost use Rattle.tb_core.specs.FirstUses.{first_of};
+ghost use Rattle.tb_core.specs.FreeVariables.{inner_free, is_in, lambda_free, without};
 ghost use Rattle.tb_core.specs.OperandOrder.{HasLine, Line, order_of};
 ghost use Rattle.tb_core.specs.Reference.{Config, State, Stopped, events_of, reference};
 ghost use Rattle.tb_core.specs.Rules.{Each, EachAll, KeepsRules};
@@ -59,6 +60,14 @@ pub fn space_is_within_made()
 /// The free variables of a lambda expression of a program are those of its body but its parameters.
 pub fn free_of_lambda()
     ensures law { (p : ProgramTree) (n : ℕ) (l : LambdaTree) → KeepsRules p → slice_get p.lambdas n ≡ Some l → inner_free p n ≡ lambda_free (inner_free p) l }
+{}
+
+/// The first uses of a list have each of its variables once, and of two lists one after the other those of the
+/// first stand before those that only the second has.
+pub fn first_uses_once()
+    ensures once { (xs : List ℕ) → IsApart (first_of [] xs) }
+    ensures same { (xs : List ℕ) (y : ℕ) → is_in (first_of [] xs) y ≡ is_in xs y }
+    ensures in_order { (xs ys : List ℕ) → first_of [] (xs ++ ys) ≡ first_of [] xs ++ without xs (first_of [] ys) }
 {}
 
 /// Each node of a program that has an order goes by the line of its own operands, in the forms and in the

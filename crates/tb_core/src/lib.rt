@@ -18,9 +18,9 @@ pub use examples::{
 pub use expr::{Core, Expr, ExprRow, LambdaId, LambdaIdRow, Site, VarId, VarRow};
 pub use free::free_vars;
 pub use laws::{
-    cut_keeps_listed, cut_to_fewer, emits_in_order, ends_last, free_of_lambda, made_only_grows,
-    no_run_is_lost, order_at_nodes, space_counts_once, space_is_within_made, stopped_stays,
-    windows_are_finite,
+    cut_keeps_listed, cut_to_fewer, emits_in_order, ends_last, first_uses_once, free_of_lambda,
+    made_only_grows, no_run_is_lost, order_at_nodes, space_counts_once, space_is_within_made,
+    stopped_stays, windows_are_finite,
 };
 pub use limits::{CoreRefusal, check};
 pub use order::{IndexRow, Order, OrderLine, operand_order};
