@@ -2,7 +2,6 @@
 use Rattle.std.specs.Prelude.{ℕ, false, List}
 use Rattle.tb_prim.specs.declared.place.Place.{Place}
 use Rattle.tb_core.specs.Tree.{Trees}
-use Rattle.tb_sexp.specs.declared.refusal.ReadRefusal.{ReadRefusal}
 use Rattle.tb_sexp.specs.declared.refusal.ReadRefusal.TheVariants.{Syntax, Unclosed, TooDeep, TooLong, TooBig}
 use Rattle.tb_sexp.specs.Texts.{IsText, IsRefused}
 use Rattle.tb_sexp.specs.Tree.{Tree}

@@ -1,5 +1,4 @@
 use Rattle.std.proofs.Common.{map, sym, subst}
-use Rattle.std.specs.Prelude.{Err}
 use Rattle.tb_core.specs.View.{view, trees}
 use Rattle.tb_sexp.specs.View as sexp
 use Rattle.tb_forms.specs.Forms.{AreAccepted}

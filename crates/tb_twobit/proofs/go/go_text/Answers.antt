@@ -1,5 +1,4 @@
 use Rattle.std.proofs.Common.{false, map, sym, subst}
-use Rattle.std.specs.Prelude.{Err, IfErr}
 use Rattle.tb_sexp.specs.Texts.{IsText, RefusedAs}
 use Rattle.tb_sexp.specs.View.{view}
 use Rattle.tb_twobit.specs.Refusals.{syntax, unclosed, too_deep, too_long, too_big}
