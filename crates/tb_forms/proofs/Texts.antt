@@ -87,7 +87,7 @@ parted [] i d lt = absurd (omega arith)
 parted (x ∷ ds) zero d lt = refl
 parted (x ∷ ds) (suc i) d lt = ap (datum.more (data_view.view x)) (parted ds i d (omega arith))
 
-refused_so : (k v : ℕ) (d : datum.Tree) (e : Tree) → reading 1000 no_names k v d ≡ None → IsForm no_names k v d e → 1000 < k + nodes e
+pub refused_so : (k v : ℕ) (d : datum.Tree) (e : Tree) → reading 1000 no_names k v d ≡ None → IsForm no_names k v d e → 1000 < k + nodes e
 refused_so k v d e n f = ⊎_elim (λ l. l) (λ le. let h = form_read 1000 no_names k v d e f (omega arith) in let c : None ≡ gives e (k + nodes e) (v + length (bound e)) = sym n ∙ h in cc) (cases_lt 1000 (k + nodes e))
 
 -- a datum of the text is not read

@@ -13,6 +13,6 @@ mod rules_laws;
 mod scope;
 
 pub use forms::forms_of;
-pub use laws::{one_meaning, worked_forms};
+pub use laws::{one_answer, one_meaning, worked_forms};
 pub use refusal::FormRefusal;
 pub use rules_laws::{forms_are_small, forms_keep_rules};

@@ -1,0 +1,17 @@
+ghost use Rattle.std.specs.Prelude.{◌≡◌, ◌⊎◌, ℕ, List};
+ghost use Rattle.tb_core.specs.Tree.{Trees};
+ghost use Rattle.tb_twobit.specs.Refusals.{Refusal, IsAccepted, IsRefusedWith};
+
+use tb_forms::one_answer;
+use tb_sexp::texts_read_one_way;
+
+/// A source text is accepted with one program, or refused with one number at one place, and not both.
+pub fn one_answer_a_text()
+    ensures not_both { (bytes : List ℕ) (forms : Trees) (r : Refusal) → IsAccepted bytes forms → IsRefusedWith bytes r → ⊥ }
+    ensures one_program { (bytes : List ℕ) (f g : Trees) → IsAccepted bytes f → IsAccepted bytes g → f ≡ g }
+    ensures one_refusal { (bytes : List ℕ) (r s : Refusal) → IsRefusedWith bytes r → IsRefusedWith bytes s → r ≡ s }
+    ensures covered { (bytes : List ℕ) → ((forms : Trees) × IsAccepted bytes forms) ⊎ ((r : Refusal) × IsRefusedWith bytes r) }
+{
+    texts_read_one_way();
+    one_answer();
+}
