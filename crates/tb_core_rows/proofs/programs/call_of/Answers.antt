@@ -1,0 +1,6 @@
+use Rattle.std.proofs.Common.{◌+◌, [], ◌∷◌, arith}
+use Rattle.tb_core_rows.proofs.Quiets.{one_apart, form_keeps}
+use Rattle.tb_core_rows.proofs.programs.call_of.Goals as goal
+
+pub of_one-requires : goal.of_one-requires
+of_one-requires c = form_keeps _ _ (1 ∷ []) (c.args.count + 2) c.in_ok-form.form c.new.ensures.items c.new-2.ensures.items (c.in_ok-form.ensures []) (one_apart 1) (omega (arith, c.requires))

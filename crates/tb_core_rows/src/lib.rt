@@ -1,0 +1,5 @@
+//! Tests of the measures of the core language: worked rows over trees.
+#![tactic(auto)]
+
+pub mod programs;
+pub mod trees;
