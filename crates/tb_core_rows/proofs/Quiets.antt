@@ -238,3 +238,10 @@ product_below n a le few = let h : n * a ≤ 2000 * 21 = mul-le-mul le few in om
 
 pub forms_keep : (n : ℕ) (es : List Expr) → n ≤ 2000 → length es ≤ 21 → Every (λ e. IsPlain n (view e)) es → KeepsRules (plain_program [] [] [] es)
 forms_keep n es le few q = keeps_alone [] (n * length es) (trees (map view es)) (quiet_all [] n es q) tt (product_below n (length es) le few)
+
+-- a program that is written out
+pub worked_keep : (ss statics : List Static) (lts : List LambdaTree) (ls : List LambdaCode) (t : Tree) (e : Expr) → statics ≡ ss → map view_lambda ls ≡ lts → view e ≡ t → KeepsRules (record { globals = []; statics = ss; lambdas = lts; forms = more t none }) → KeepsRules (plain_program [] statics ls (e ∷ []))
+worked_keep ss statics lts ls t e h k m r =
+    subst (λ v. KeepsRules (record { globals = []; statics = v; lambdas = map view_lambda ls; forms = more (view e) none })) (sym h)
+    (subst (λ v. KeepsRules (record { globals = []; statics = ss; lambdas = v; forms = more (view e) none })) (sym k)
+    (subst (λ v. KeepsRules (record { globals = []; statics = ss; lambdas = lts; forms = more v none })) (sym m) r))

@@ -3,3 +3,4 @@
 
 pub mod programs;
 pub mod trees;
+pub mod worked;

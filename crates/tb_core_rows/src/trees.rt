@@ -104,12 +104,7 @@ pub fn wrapped(alloc: Global, number: u32, inside: Expr) -> Result<Expr, NoMemor
 }
 
 /// So many sequences of one expression around each other.
-pub fn nested(
-    alloc: Global,
-    number: u32,
-    depth: usize,
-    inside: Expr,
-) -> Result<Expr, NoMemory>
+pub fn nested(alloc: Global, number: u32, depth: usize, inside: Expr) -> Result<Expr, NoMemory>
     requires { number < 2 ^ 24 }
     ensures { IfOk result (λ e. (within ls ss : List ℕ) (n : ℕ) → IsQuiet within ls ss n (view inside) → IsQuiet within ls ss (n + depth) (view e)) }
 {
