@@ -2,5 +2,7 @@
 #![tactic(auto)]
 
 pub mod programs;
+#[cfg(test)]
+mod tests;
 pub mod trees;
 pub mod worked;

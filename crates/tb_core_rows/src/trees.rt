@@ -169,6 +169,7 @@ pub fn of_one(
     form: Expr,
 ) -> Result<Program, NoMemory>
     requires { KeepsRules (plain_program [] statics.items lambdas.items (form ∷ [])) }
+    ensures { IfOk result (λ p. p.lambdas ≡ lambdas.items) }
 {
     Ok(Program {
         globals: Row::from_vec(Vec::new(alloc)),

@@ -1,4 +1,4 @@
-ghost use Rattle.std.specs.Prelude.{◌≡◌, pos, List, [], ◌∷◌, map, IfOk};
+ghost use Rattle.std.specs.Prelude.{◌≡◌, pos, List, [], ◌∷◌, length, map, IfOk};
 ghost use Rattle.tb_core.specs.Examples as example;
 ghost use Rattle.tb_core.specs.Rules.{KeepsRules};
 ghost use Rattle.tb_core.specs.Tree as tree;
@@ -100,7 +100,9 @@ fn uses_inner(alloc: Global) -> Result<Lambda, NoMemory>
 }
 
 /// `(let ((a 1) (b 2)) (lambda (c) (begin b c a b)))`
-pub fn uses_in_lambda(alloc: Global) -> Result<Program, NoMemory> {
+pub fn uses_in_lambda(alloc: Global) -> Result<Program, NoMemory>
+    ensures { IfOk result (λ p. length p.lambdas ≡ 1) }
+{
     let form = uses_tree(alloc)?;
     let lambdas = vec![in alloc; uses_inner(alloc)?]?;
     worked_rules();
