@@ -3,7 +3,6 @@
 use Rattle.std.proofs.Common.{◌≡◌, refl, sym, ap, ◌∙◌, subst, ℕ, zero, suc, ◌+◌, ◌*◌, ◌<◌, ◌≤◌, ◌⊎◌, inl, inr, arith, Bool, true, false, cond, ◌==◌, ◌||◌, List, [], ◌∷◌, ◌++◌, length, map, drop, Option, Some, None, get_or, add-zero, add-one, ◌-◌, Result, Ok, Err}
 use Rattle.std.proofs.lemmas.Bool.{ne_eqb, eq-eqb}
 use Rattle.std.proofs.lemmas.Grind.{common_steps}
-use Rattle.tb_prim.specs.declared.place.Place.{Place}
 use Rattle.tb_core.specs.declared.limits.CoreRefusal.{CoreRefusal}
 use Rattle.tb_core.specs.declared.limits.Totals.{Totals}
 use Rattle.tb_core.specs.declared.program.Lambda.{Lambda as LambdaCode}

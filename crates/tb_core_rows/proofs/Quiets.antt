@@ -1,5 +1,5 @@
 -- How trees without variables are made, and the programs of them.
-use Rattle.std.proofs.Common.{◌≡◌, refl, sym, ap, ◌∙◌, subst, ℕ, zero, suc, ◌+◌, ◌*◌, ◌^◌, ◌≤◌, ◌<◌, Bool, true, false, cond, List, [], ◌∷◌, ◌++◌, length, map, None, Some, Option, ◌⊎◌, inl, inr, ⊎_elim, append-nil, length-append, mul-le-mul, arith}
+use Rattle.std.proofs.Common.{◌≡◌, refl, sym, ap, ◌∙◌, subst, ℕ, zero, suc, ◌+◌, ◌*◌, ◌^◌, ◌≤◌, ◌<◌, Bool, true, false, cond, List, [], ◌∷◌, ◌++◌, length, map, None, Some, ◌⊎◌, inl, inr, ⊎_elim, append-nil, length-append, mul-le-mul, arith}
 use Rattle.std.proofs.lemmas.List.{map-append}
 use Rattle.std.specs.Bool.{then_some}
 use Rattle.tb_prim.specs.declared.place.Place.{Place}
@@ -7,12 +7,12 @@ use Rattle.tb_prim.specs.declared.constant.Const.{Const}
 use Rattle.tb_prim.specs.declared.constant.Static.{Static}
 use Rattle.tb_semantics.specs.Graph.{IsApart, IsIn}
 use Rattle.tb_core.specs.declared.expr.Expr.{Expr}
-use Rattle.tb_core.specs.Tree.{Tree, Node, Form, Quote, Lambda, Let, Seq, Call, Trees, none, more, count, LambdaTree, ProgramTree, option_list, parameters}
+use Rattle.tb_core.specs.Tree.{Tree, Node, Quote, Lambda, Let, Seq, Call, Trees, none, more, count, LambdaTree, option_list, parameters}
 use Rattle.tb_core.specs.declared.program.Lambda.{Lambda as LambdaCode}
 use Rattle.tb_core.specs.Plain.{trees, view, view_lambda, plain_program}
-use Rattle.tb_core.specs.FreeVariables.{is_in, free, free_all, inner_free, without}
-use Rattle.tb_core.specs.OperandOrder.{Line, lines, lines_all, order_of}
-use Rattle.tb_core.specs.Rules.{Each, EachAll, Every, KeepsRules, NodeKeeps, NoMark, LambdaKeeps, variables, standing, bound, inner, size, size_all}
+use Rattle.tb_core.specs.FreeVariables.{is_in, free_all, without}
+use Rattle.tb_core.specs.OperandOrder.{Line, lines, lines_all}
+use Rattle.tb_core.specs.Rules.{Every, KeepsRules, standing}
 use Rattle.tb_core_rows.specs.Quiet.{IsQuiet, AreQuiet, IsPlain, sites}
 
 -- a constant

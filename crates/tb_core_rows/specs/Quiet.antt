@@ -1,5 +1,5 @@
 -- Trees without variables, which keep the rules wherever they stand.
-use Rattle.std.specs.Prelude.{◌≡◌, ℕ, ◌≤◌, ◌<◌, Bool, false, List, [], ◌∷◌, length, map}
+use Rattle.std.specs.Prelude.{◌≡◌, ℕ, ◌≤◌, ◌<◌, Bool, false, List, [], length, map}
 use Rattle.tb_core.specs.Tree.{Tree, Trees, ProgramTree}
 use Rattle.tb_core.specs.FreeVariables.{free, free_all, targets, targets_all}
 use Rattle.tb_core.specs.OperandOrder.{Line, lines, lines_all}

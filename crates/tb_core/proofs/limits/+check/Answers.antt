@@ -1,9 +1,8 @@
-use Rattle.std.proofs.Common.{◌≡◌, ◌+◌, ◌-◌, ◌≤◌, length, map, drop, [], Ok, refl, sym, inl, inr, arith, ap, ◌∙◌}
+use Rattle.std.proofs.Common.{◌≡◌, ◌+◌, ◌-◌, length, map, drop, [], Ok, refl, sym, inl, inr, arith, ap, ◌∙◌}
 use Rattle.std.proofs.lemmas.List.{length-map}
-use Rattle.tb_core.specs.View.{view, view_lambda}
-use Rattle.tb_core.specs.Width.{nodes}
-use Rattle.tb_core.specs.Limits.{judge, lambdas_measures, lambda_measures}
-use Rattle.tb_core.proofs.Judging.{judge_none, lambda_at, nodes_at, nodes_of_lambdas, measures_past, judging}
+use Rattle.tb_core.specs.View.{view_lambda}
+use Rattle.tb_core.specs.Limits.{judge, lambdas_measures}
+use Rattle.tb_core.proofs.Judging.{judge_none, lambda_at, nodes_at, measures_past, judging}
 use Rattle.tb_core.proofs.limits.+check.Goals as goal
 use Rattle.tb_core.proofs.limits.+check.Goals.{check_lambda-then-number-first-via-then-number-first, check_lambda-then-number-first-via-else-number-first+then-lambdas-number}
 

@@ -1,5 +1,4 @@
-use Rattle.std.proofs.Common.{◌≡◌, ◌≤◌, ◌+◌, length, sym, subst, arith}
-use Rattle.tb_core.specs.declared.expr.Expr.{Expr}
+use Rattle.std.proofs.Common.{◌≤◌, length, sym, subst, arith}
 use Rattle.tb_core.specs.Rules.{Every}
 use Rattle.tb_core.specs.View.{view}
 use Rattle.tb_core_rows.specs.Quiet.{IsPlain}

@@ -1,4 +1,4 @@
-use Rattle.std.proofs.Common.{◌+◌, [], ◌∷◌, sym, subst, arith}
+use Rattle.std.proofs.Common.{◌+◌, [], sym, subst, arith}
 use Rattle.tb_core.specs.View.{view}
 use Rattle.tb_core_rows.specs.Quiet.{IsQuiet}
 use Rattle.tb_core_rows.proofs.Quiets.{lambda_keeps}

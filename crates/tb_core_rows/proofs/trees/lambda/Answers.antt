@@ -1,4 +1,4 @@
-use Rattle.std.proofs.Common.{◌≡◌, ◌+◌, ◌<◌, ◌^◌, ◌++◌, ℕ, List, sym, subst, arith}
+use Rattle.std.proofs.Common.{◌<◌, ◌^◌, ◌++◌, ℕ, List, sym, subst, arith}
 use Rattle.tb_semantics.specs.Graph.{IsApart}
 use Rattle.tb_core.specs.Rules.{Every}
 use Rattle.tb_core.specs.Tree.{option_list}

@@ -1,4 +1,4 @@
-use Rattle.std.proofs.Common.{◌≡◌, ◌+◌, List, [], map, sym, ap, subst, ◌∙◌}
+use Rattle.std.proofs.Common.{◌≡◌, ◌+◌, [], map, sym, ap, subst, ◌∙◌}
 use Rattle.tb_core.specs.Examples.{spot}
 use Rattle.tb_core.specs.Tree.{Node, Seq}
 use Rattle.tb_core.specs.View.{view, trees}
