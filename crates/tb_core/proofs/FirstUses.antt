@@ -4,7 +4,7 @@ use Rattle.std.proofs.lemmas.Bool.{eqb-false}
 use Rattle.std.specs.List.{list_any}
 use Rattle.indexmap.specs.IndexSet.{insert_key}
 use Rattle.std.proofs.lemmas.List.Folds.{list_any-append}
-use Rattle.tb_semantics.specs.Graph.{IsIn, IsApart}
+use Rattle.tb_semantics.specs.Graph.{IsApart}
 use Rattle.tb_core.specs.FreeVariables.{is_in, without}
 use Rattle.tb_core.specs.FirstUses.{first_of}
 use Rattle.tb_core.proofs.Members.{tested-in}

@@ -1,5 +1,5 @@
 -- The free variables of a lambda expression by its number.
-use Rattle.std.proofs.Common.{◌≡◌, refl, sym, ap, ◌∙◌, ℕ, zero, suc, ◌+◌, ◌-◌, ◌<◌, ◌≤◌, ◌⊎◌, inl, inr, arith, true, false, cond, ◌==◌, List, [], ◌∷◌, length, map, drop, get_or, add-zero, add-one}
+use Rattle.std.proofs.Common.{◌≡◌, refl, sym, ap, ◌∙◌, ℕ, zero, suc, ◌+◌, ◌-◌, ◌<◌, ◌≤◌, ◌⊎◌, inl, inr, arith, true, false, ◌==◌, List, [], ◌∷◌, length, map, drop, get_or, add-zero, add-one}
 use Rattle.std.proofs.lemmas.Bool.{ne_eqb, eq-eqb}
 use Rattle.tb_core.specs.declared.program.Lambda.{Lambda as LambdaCode}
 use Rattle.tb_core.specs.Tree.{LambdaTree}

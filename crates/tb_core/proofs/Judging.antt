@@ -3,13 +3,11 @@
 use Rattle.std.proofs.Common.{◌≡◌, refl, sym, ap, ◌∙◌, subst, ℕ, zero, suc, ◌+◌, ◌*◌, ◌<◌, ◌≤◌, ◌⊎◌, inl, inr, arith, Bool, true, false, cond, ◌==◌, ◌||◌, List, [], ◌∷◌, ◌++◌, length, map, drop, Option, Some, None, get_or, add-zero, add-one, ◌-◌, Result, Ok, Err}
 use Rattle.std.proofs.lemmas.Bool.{ne_eqb, eq-eqb}
 use Rattle.std.proofs.lemmas.Grind.{common_steps}
-use Rattle.tb_prim.specs.declared.place.Place.{Place}
 use Rattle.tb_core.specs.declared.limits.CoreRefusal.{CoreRefusal}
 use Rattle.tb_core.specs.declared.limits.Totals.{Totals}
 use Rattle.tb_core.specs.declared.program.Lambda.{Lambda as LambdaCode}
 use Rattle.tb_core.specs.Tree.{LambdaTree}
-use Rattle.tb_core.specs.View.{view, view_lambda}
-use Rattle.tb_core.specs.Width.{nodes}
+use Rattle.tb_core.specs.View.{view_lambda}
 use Rattle.tb_core.proofs.Views.{viewed}
 use Rattle.tb_core.specs.Limits.{Measure, judged, judged_after, judge, lambda_measures, lambdas_measures}
 
@@ -58,23 +56,5 @@ measures_past [] first l scope depth h = refl
 measures_past (n ∷ ms) first l scope depth h =
     let other : (first == l) ≡ false = ne_eqb first l (λ e. omega arith) in
     rw other (measures_past ms (suc first) l scope depth (elim h [ inl a ↦ inl (omega arith) | inr b ↦ inr (omega arith) ]))
-
--- the nodes of some lambda expressions
-abbrev pub nodes_of_lambdas : List LambdaTree → ℕ
-nodes_of_lambdas [] = 0
-nodes_of_lambdas (l ∷ ls) = nodes l.body + nodes_of_lambdas ls
-
-nodes_at_index : (ls : List LambdaCode) (k : ℕ) (m : LambdaCode) → k < length ls → m ≡ get_or ls k m → nodes (view m.body) + nodes_of_lambdas (map view_lambda (drop (suc k) ls)) ≤ nodes_of_lambdas (map view_lambda ls)
-nodes_at_index [] k m lt is = absurd (omega arith)
-nodes_at_index (n ∷ ls) zero m lt is =
-    let same : nodes (view m.body) ≡ nodes (view n.body) = ap (λ (v : LambdaCode). nodes (view v.body)) is in
-    omega arith
-nodes_at_index (n ∷ ls) (suc k) m lt is =
-    let h : nodes (view m.body) + nodes_of_lambdas (map view_lambda (drop (suc k) ls)) ≤ nodes_of_lambdas (map view_lambda ls) = nodes_at_index ls k m (omega arith) is in
-    omega arith
-
--- the nodes of a lambda expression and of those after it
-pub nodes_at : (ls rest : List LambdaCode) (k : ℕ) (m : LambdaCode) → k < length ls → m ≡ get_or ls k m → rest ≡ drop (k + 1) ls → nodes (view m.body) + nodes_of_lambdas (map view_lambda rest) ≤ nodes_of_lambdas (map view_lambda ls)
-nodes_at ls rest k m lt is after = rw (after, add-one) (nodes_at_index ls k m lt is)
 
 pub ruleset judging = (common_steps, arith, viewed, judge_none, judge_first, judge_append, judge_offence)

@@ -1,5 +1,5 @@
 -- The lines of a lambda expression by its number.
-use Rattle.std.proofs.Common.{◌≡◌, refl, sym, ap, ◌∙◌, ℕ, zero, suc, ◌+◌, ◌-◌, ◌<◌, ◌≤◌, ◌⊎◌, inl, inr, arith, Bool, true, false, cond, ◌==◌, List, [], ◌∷◌, length, map, drop, ◌++◌, append_assoc, Result, Ok, Err, OnOk, get_or, add-zero, add-one}
+use Rattle.std.proofs.Common.{◌≡◌, refl, sym, ap, ◌∙◌, ℕ, zero, suc, ◌+◌, ◌-◌, ◌<◌, ◌≤◌, ◌⊎◌, inl, inr, arith, Bool, true, false, ◌==◌, List, [], ◌∷◌, length, map, drop, ◌++◌, append_assoc, Result, Ok, Err, OnOk, get_or, add-zero, add-one}
 use Rattle.std.proofs.Math.Path.{fun_ext}
 use Rattle.std.proofs.lemmas.Bool.{ne_eqb, eq-eqb}
 use Rattle.tb_core.specs.declared.program.Lambda.{Lambda as LambdaCode}

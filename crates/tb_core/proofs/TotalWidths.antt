@@ -1,11 +1,11 @@
 -- The widths among the measures of a program are those of its bodies and forms, and the totals of measures
 -- without an offence are those of their widths.
-use Rattle.std.proofs.Common.{◌≡◌, refl, sym, ap, ◌∙◌, subst, ℕ, suc, ◌+◌, ◌*◌, ◌≤◌, ◌<◌, max, Bool, true, false, cond, ◌||◌, ◌==◌, List, [], ◌∷◌, ◌++◌, length, map, Result, Ok, Err, arith}
+use Rattle.std.proofs.Common.{◌≡◌, refl, sym, ap, ◌∙◌, ℕ, suc, ◌+◌, ◌*◌, max, Bool, true, false, cond, ◌==◌, List, [], ◌∷◌, ◌++◌, length, Ok, Err, arith}
 use Rattle.tb_core.specs.declared.limits.CoreRefusal.{CoreRefusal}
 use Rattle.tb_core.specs.declared.limits.Totals.{Totals}
 use Rattle.tb_core.specs.Tree.{Tree, Node, Form, Quote, Local, Global, Lambda, If, SetLocal, SetGlobal, DefGlobal, Let, Letrec, Seq, Call, PrimUse, Apply, Trees, none, more, LambdaTree, ProgramTree, parameters}
-use Rattle.tb_core.specs.Width.{nodes, widths, widths_form, widths_all, widths_of_lambdas, lambda_widths, lambdas_widths, form_widths, all_widths, largest, squares, width_of, square_sum}
-use Rattle.tb_core.specs.Limits.{Measure, Operands, Depth, Width, measures, measures_form, measures_all, measures_of_lambdas, lambda_measures, lambdas_measures, call_measures, form_measures, forms_measures, program_measures, judged, judged_after, judge, no_widths, judge_program}
+use Rattle.tb_core.specs.Width.{nodes, widths, widths_form, widths_all, widths_of_lambdas, lambdas_widths, form_widths, all_widths, largest, squares, width_of, square_sum}
+use Rattle.tb_core.specs.Limits.{Measure, Operands, Depth, Width, measures, measures_form, measures_all, measures_of_lambdas, lambdas_measures, call_measures, form_measures, forms_measures, program_measures, judged, judge, no_widths, judge_program}
 use Rattle.tb_core.proofs.Judging.{judge_offence}
 
 -- the widths among some measures

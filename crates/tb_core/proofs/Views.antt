@@ -3,7 +3,6 @@ use Rattle.std.proofs.Common.{◌≡◌, refl, sym, ap, ◌∙◌, ℕ, List, []
 use Rattle.std.proofs.lemmas.Grind.{common_steps}
 use Rattle.tb_prim.specs.declared.constant.Const.{Const}
 use Rattle.tb_prim.specs.declared.primitive.Primitive.{Primitive}
-use Rattle.tb_core.specs.declared.expr.Core.{Core}
 use Rattle.tb_core.specs.declared.expr.Core.TheOpen.{Core-F}
 use Rattle.tb_core.specs.declared.expr.Core.TheVariants as code
 use Rattle.tb_core.specs.declared.expr.Core.TheVariants.{rolls-Quote, rolls-Local, rolls-Global, rolls-Lambda, rolls-If, rolls-SetLocal, rolls-SetGlobal, rolls-DefGlobal, rolls-Let, rolls-Letrec, rolls-Seq, rolls-Call, rolls-Prim, rolls-Apply}

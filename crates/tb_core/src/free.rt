@@ -1,4 +1,4 @@
-ghost use Rattle.std.specs.Prelude.{◌≡◌, ◌+◌, ◌<◌, ◌++◌, ℕ, [], ◌∷◌, length, map, drop, nat_eq, IfOk, OnOk};
+ghost use Rattle.std.specs.Prelude.{◌≡◌, ◌+◌, ◌<◌, ◌≤◌, ◌++◌, ℕ, [], ◌∷◌, length, map, drop, nat_eq, IfOk, OnOk};
 ghost use Rattle.indexmap.specs.IndexSet.{contains};
 ghost use Rattle.tb_core.specs.FreeVariables as spec;
 ghost use Rattle.tb_core.specs.FreeVariables.{lambdas_free, of_lambdas};
@@ -6,7 +6,7 @@ ghost use Rattle.tb_core.specs.FirstUses.{first_of, free_in_order};
 ghost use Rattle.tb_core.specs.Tree as tree;
 ghost use Rattle.tb_core.specs.View.{view, trees, view_lambda, view_program};
 
-use super::limits::after;
+use super::limits::{MAX_DEPTH, after, levels_below};
 use super::{Core, Expr, Lambda, LambdaId, Program, VarId, VarRow};
 use indexmap::IndexSet;
 use std::alloc::Global;
@@ -61,39 +61,44 @@ fn parameters(alloc: Global, lambda: &Lambda) -> Result<Vec<VarId>, NoMemory>
 }
 
 /// Puts the free variables of an expression, as often as they stand in it, in written order. The number of the
-/// first of the lambda expressions is `first`, and those in the expression are among them.
+/// first of the lambda expressions is `first`, and those in the expression are among them. Goes no deeper than `levels`
+/// nodes, and answers want of memory at a node below.
 #[cycle(free)]
 #[tactic(auto, using(crate::proofs::Views::viewing))]
 fn put_free(
     alloc: Global,
     lambdas: &[Lambda],
     first: usize,
+    levels: u32,
     out: &mut Vec<VarId>,
     expr: &Expr,
 ) -> Result<(), NoMemory>
+    requires { levels ≤ 1000 }
     ensures { OnOk result (out.new.items ≡ out.old.items ++ spec.free (lambdas_free (map view_lambda lambdas.now) first) (view expr.now)) }
 {
+    let levels = levels_below(levels)?;
     match &expr.core {
         Core::Quote(_) | Core::Global(_) => Ok(()),
         Core::Local(variable) => put(out, *variable),
-        Core::Lambda(number) => put_lambda(alloc, lambdas, first, out, *number),
+        Core::Lambda(number) => put_lambda(alloc, lambdas, first, levels, out, *number),
         Core::If(test, then, other) => {
-            put_free(alloc, lambdas, first, out, test.get())?;
-            put_free(alloc, lambdas, first, out, then.get())?;
-            put_free(alloc, lambdas, first, out, other.get())
+            put_free(alloc, lambdas, first, levels, out, test.get())?;
+            put_free(alloc, lambdas, first, levels, out, then.get())?;
+            put_free(alloc, lambdas, first, levels, out, other.get())
         }
         Core::SetLocal(variable, value) => {
             put(out, *variable)?;
-            put_free(alloc, lambdas, first, out, value.get())
+            put_free(alloc, lambdas, first, levels, out, value.get())
         }
-        Core::SetGlobal(_, value) => put_free(alloc, lambdas, first, out, value.get()),
-        Core::DefGlobal(_, value) => put_free(alloc, lambdas, first, out, value.get()),
+        Core::SetGlobal(_, value) => put_free(alloc, lambdas, first, levels, out, value.get()),
+        Core::DefGlobal(_, value) => put_free(alloc, lambdas, first, levels, out, value.get()),
         Core::Let(variables, values, body) => {
-            put_free_of_all(alloc, lambdas, first, out, values.as_slice())?;
+            put_free_of_all(alloc, lambdas, first, levels, out, values.as_slice())?;
             put_outer(
                 alloc,
                 lambdas,
                 first,
+                levels,
                 out,
                 variables.as_slice(),
                 &[],
@@ -104,20 +109,28 @@ fn put_free(
             alloc,
             lambdas,
             first,
+            levels,
             out,
             variables.as_slice(),
             numbers.as_slice(),
             body.get(),
         ),
-        Core::Seq(exprs) => put_free_of_all(alloc, lambdas, first, out, exprs.as_slice()),
+        Core::Seq(exprs) => put_free_of_all(alloc, lambdas, first, levels, out, exprs.as_slice()),
         Core::Call(operator, operands) => {
-            put_free(alloc, lambdas, first, out, operator.get())?;
-            put_free_of_all(alloc, lambdas, first, out, operands.as_slice())
+            put_free(alloc, lambdas, first, levels, out, operator.get())?;
+            put_free_of_all(alloc, lambdas, first, levels, out, operands.as_slice())
         }
-        Core::Prim(_, operands) => put_free_of_all(alloc, lambdas, first, out, operands.as_slice()),
+        Core::Prim(_, operands) => put_free_of_all(
+            alloc,
+            lambdas,
+            first,
+            levels,
+            out,
+            operands.as_slice(),
+        ),
         Core::Apply(procedure, list) => {
-            put_free(alloc, lambdas, first, out, procedure.get())?;
-            put_free(alloc, lambdas, first, out, list.get())
+            put_free(alloc, lambdas, first, levels, out, procedure.get())?;
+            put_free(alloc, lambdas, first, levels, out, list.get())
         }
     }
 }
@@ -129,13 +142,15 @@ fn put_free_of_all(
     alloc: Global,
     lambdas: &[Lambda],
     first: usize,
+    levels: u32,
     out: &mut Vec<VarId>,
     exprs: &[Expr],
 ) -> Result<(), NoMemory>
+    requires { levels ≤ 1000 }
     ensures { OnOk result (out.new.items ≡ out.old.items ++ spec.free_all (lambdas_free (map view_lambda lambdas.now) first) (trees (map view exprs.now))) }
 {
     for expr in exprs {
-        put_free(alloc, lambdas, first, out, expr)?;
+        put_free(alloc, lambdas, first, levels, out, expr)?;
     }
     Ok(())
 }
@@ -147,18 +162,20 @@ fn put_outer(
     alloc: Global,
     lambdas: &[Lambda],
     first: usize,
+    levels: u32,
     out: &mut Vec<VarId>,
     bound: &[VarId],
     numbers: &[LambdaId],
     body: &Expr,
 ) -> Result<(), NoMemory>
+    requires { levels ≤ 1000 }
     ensures { OnOk result (out.new.items ≡ out.old.items ++ spec.without bound.now (of_lambdas (lambdas_free (map view_lambda lambdas.now) first) numbers.now ++ spec.free (lambdas_free (map view_lambda lambdas.now) first) (view body.now))) }
 {
     let mut inside = Vec::new(alloc);
     for number in numbers {
-        put_lambda(alloc, lambdas, first, &mut inside, *number)?;
+        put_lambda(alloc, lambdas, first, levels, &mut inside, *number)?;
     }
-    put_free(alloc, lambdas, first, &mut inside, body)?;
+    put_free(alloc, lambdas, first, levels, &mut inside, body)?;
     put_without(alloc, out, bound, inside.as_slice())
 }
 
@@ -169,9 +186,11 @@ fn put_lambda(
     alloc: Global,
     lambdas: &[Lambda],
     first: usize,
+    levels: u32,
     out: &mut Vec<VarId>,
     number: LambdaId,
 ) -> Result<(), NoMemory>
+    requires { levels ≤ 1000 }
     ensures { OnOk result (out.new.items ≡ out.old.items ++ lambdas_free (map view_lambda lambdas.now) first number) }
 {
     let number = number as usize;
@@ -186,6 +205,7 @@ fn put_lambda(
         alloc,
         after(lambdas, index),
         number + 1,
+        levels,
         &mut inside,
         &lambda.body,
     )?;
@@ -200,12 +220,20 @@ fn first_uses(alloc: Global, variables: &[VarId]) -> Result<Vec<VarId>, NoMemory
     Ok(Vec::from_slice(alloc, set.as_slice())?)
 }
 
-/// The free variables of a lambda expression of the program, each once, in the order of their first use.
+/// The free variables of a lambda expression of the program, each once, in the order of their first use. Want of
+/// memory is also the answer where nodes of its body nest deeper than 1,000, which `check` refuses.
 pub fn free_vars(alloc: Global, program: &Program, lambda: LambdaId) -> Result<VarRow, NoMemory>
     requires { lambda < length program.now.lambdas }
     ensures { IfOk result (λ row. row ≡ free_in_order (view_program program.now) lambda) }
 {
     let mut all = Vec::new(alloc);
-    put_lambda(alloc, program.lambdas.as_slice(), 0, &mut all, lambda)?;
+    put_lambda(
+        alloc,
+        program.lambdas.as_slice(),
+        0,
+        MAX_DEPTH,
+        &mut all,
+        lambda,
+    )?;
     Ok(Row::from_vec(first_uses(alloc, all.as_slice())?))
 }

@@ -5,13 +5,13 @@ ghost use Rattle.tb_core.specs.Width.{width_of, square_sum};
 ghost use Rattle.tb_core.specs.View.{view, view_core, trees, view_lambda, view_program};
 
 use super::{Core, Expr, Lambda, LambdaId, Program};
-use tb_prim::Place;
+use tb_prim::{NoMemory, Place};
 
 /// The most operands of a call, and the most parameters of a lambda expression, the rest one counted.
 const MAX_OPERANDS: usize = 12;
 
 /// The greatest depth of nodes: a form has depth 1.
-const MAX_DEPTH: u32 = 1000;
+pub(crate) const MAX_DEPTH: u32 = 1000;
 
 /// The greatest width of a body or form.
 const MAX_WIDTH: usize = 1000;
@@ -156,6 +156,14 @@ pub(crate) fn after(lambdas: &[Lambda], index: usize) -> &[Lambda]
     ensures { result.now ≡ drop (index + 1) lambdas.now }
 {
     &lambdas[index + 1..]
+}
+
+/// The levels of nodes below a node where so many are left from its own on, or want of memory where none is left:
+/// there is no room on the stack for a deeper tree.
+pub(crate) fn levels_below(levels: u32) -> Result<u32, NoMemory>
+    ensures { MatchResult result (λ below. below + 1 ≡ levels) (λ _. levels ≡ 0) }
+{
+    levels.checked_sub(1).ok_or(NoMemory)
 }
 
 /// The first offence of an expression, or the totals of the widths after it. The number of the first of

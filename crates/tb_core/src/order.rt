@@ -5,7 +5,7 @@ ghost use Rattle.tb_core.specs.Order.{view_line, is_marked};
 ghost use Rattle.tb_core.specs.Tree as tree;
 ghost use Rattle.tb_core.specs.View.{view, view_core, trees, view_lambda, view_program};
 
-use super::limits::after;
+use super::limits::{MAX_DEPTH, after, levels_below};
 use super::{Core, Expr, Lambda, LambdaId, Program, Site, VarId};
 use std::alloc::Global;
 use tb_prim::{NoMemory, Place, Row};
@@ -24,39 +24,42 @@ pub struct OrderLine {
 /// A line for each call, primitive use, application and `let` of a program, in written order.
 pub type Order = Row<OrderLine>;
 
-/// Puts the targets of the assignments in an expression, inner lambdas apart.
+/// Puts the targets of the assignments in an expression, inner lambdas apart. Goes no deeper than `levels` nodes,
+/// and answers want of memory at a node below.
 #[cycle(targets)]
 #[tactic(auto, using(crate::proofs::Views::viewing))]
-fn put_targets(out: &mut Vec<VarId>, expr: &Expr) -> Result<(), NoMemory>
+fn put_targets(levels: u32, out: &mut Vec<VarId>, expr: &Expr) -> Result<(), NoMemory>
+    requires { levels ≤ 1000 }
     ensures { OnOk result (out.new.items ≡ out.old.items ++ spec.targets (view expr.now)) }
 {
+    let levels = levels_below(levels)?;
     match &expr.core {
         Core::Quote(_) | Core::Local(_) | Core::Global(_) | Core::Lambda(_) => Ok(()),
         Core::If(test, then, other) => {
-            put_targets(out, test.get())?;
-            put_targets(out, then.get())?;
-            put_targets(out, other.get())
+            put_targets(levels, out, test.get())?;
+            put_targets(levels, out, then.get())?;
+            put_targets(levels, out, other.get())
         }
         Core::SetLocal(variable, value) => {
             out.push(*variable)?;
-            put_targets(out, value.get())
+            put_targets(levels, out, value.get())
         }
-        Core::SetGlobal(_, value) => put_targets(out, value.get()),
-        Core::DefGlobal(_, value) => put_targets(out, value.get()),
+        Core::SetGlobal(_, value) => put_targets(levels, out, value.get()),
+        Core::DefGlobal(_, value) => put_targets(levels, out, value.get()),
         Core::Let(_, values, body) => {
-            put_targets_of_all(out, values.as_slice())?;
-            put_targets(out, body.get())
+            put_targets_of_all(levels, out, values.as_slice())?;
+            put_targets(levels, out, body.get())
         }
-        Core::Letrec(_, _, body) => put_targets(out, body.get()),
-        Core::Seq(exprs) => put_targets_of_all(out, exprs.as_slice()),
+        Core::Letrec(_, _, body) => put_targets(levels, out, body.get()),
+        Core::Seq(exprs) => put_targets_of_all(levels, out, exprs.as_slice()),
         Core::Call(operator, operands) => {
-            put_targets(out, operator.get())?;
-            put_targets_of_all(out, operands.as_slice())
+            put_targets(levels, out, operator.get())?;
+            put_targets_of_all(levels, out, operands.as_slice())
         }
-        Core::Prim(_, operands) => put_targets_of_all(out, operands.as_slice()),
+        Core::Prim(_, operands) => put_targets_of_all(levels, out, operands.as_slice()),
         Core::Apply(procedure, list) => {
-            put_targets(out, procedure.get())?;
-            put_targets(out, list.get())
+            put_targets(levels, out, procedure.get())?;
+            put_targets(levels, out, list.get())
         }
     }
 }
@@ -64,11 +67,12 @@ fn put_targets(out: &mut Vec<VarId>, expr: &Expr) -> Result<(), NoMemory>
 /// The same of these expressions, one after another.
 #[cycle(targets)]
 #[tactic(auto, using(crate::proofs::Views::viewing))]
-fn put_targets_of_all(out: &mut Vec<VarId>, exprs: &[Expr]) -> Result<(), NoMemory>
+fn put_targets_of_all(levels: u32, out: &mut Vec<VarId>, exprs: &[Expr]) -> Result<(), NoMemory>
+    requires { levels ≤ 1000 }
     ensures { OnOk result (out.new.items ≡ out.old.items ++ spec.targets_all (trees (map view exprs.now))) }
 {
     for expr in exprs {
-        put_targets(out, expr)?;
+        put_targets(levels, out, expr)?;
     }
     Ok(())
 }
@@ -78,9 +82,9 @@ fn targets(alloc: Global, program: &Program) -> Result<Vec<VarId>, NoMemory>
     ensures { IfOk result (λ out. out.items ≡ spec.targets_all (trees (map view program.now.forms)) ++ spec.targets_of_lambdas (map view_lambda program.now.lambdas)) }
 {
     let mut out = Vec::new(alloc);
-    put_targets_of_all(&mut out, program.forms.as_slice())?;
+    put_targets_of_all(MAX_DEPTH, &mut out, program.forms.as_slice())?;
     for lambda in program.lambdas.as_slice() {
-        put_targets(&mut out, &lambda.body)?;
+        put_targets(MAX_DEPTH, &mut out, &lambda.body)?;
     }
     Ok(out)
 }
@@ -230,7 +234,8 @@ fn put_line(
 }
 
 /// Puts the lines of an expression in written order, a node before its parts. The number of the first of the
-/// lambda expressions is `first`, and those in the expression are among them.
+/// lambda expressions is `first`, and those in the expression are among them. Goes no deeper than `levels` nodes, and
+/// answers want of memory at a node below.
 #[cycle(lines)]
 #[tactic(auto, using(crate::proofs::Views::viewing))]
 fn put_lines(
@@ -238,22 +243,51 @@ fn put_lines(
     marked: &[bool],
     lambdas: &[Lambda],
     first: usize,
+    levels: u32,
     out: &mut Vec<OrderLine>,
     expr: &Expr,
 ) -> Result<(), NoMemory>
+    requires { levels ≤ 1000 }
     ensures { OnOk result (map view_line out.new.items ≡ map view_line out.old.items ++ orders.lines (is_marked marked.now) (orders.lambdas_lines (is_marked marked.now) (map view_lambda lambdas.now) first) (view expr.now)) }
 {
+    let levels = levels_below(levels)?;
     match &expr.core {
         Core::Quote(_) | Core::Local(_) | Core::Global(_) => Ok(()),
-        Core::Lambda(number) => put_lines_of_lambda(alloc, marked, lambdas, first, out, *number),
+        Core::Lambda(number) => put_lines_of_lambda(
+            alloc, marked, lambdas, first, levels, out, *number,
+        ),
         Core::If(test, then, other) => {
-            put_lines(alloc, marked, lambdas, first, out, test.get())?;
-            put_lines(alloc, marked, lambdas, first, out, then.get())?;
-            put_lines(alloc, marked, lambdas, first, out, other.get())
+            put_lines(alloc, marked, lambdas, first, levels, out, test.get())?;
+            put_lines(alloc, marked, lambdas, first, levels, out, then.get())?;
+            put_lines(alloc, marked, lambdas, first, levels, out, other.get())
         }
-        Core::SetLocal(_, value) => put_lines(alloc, marked, lambdas, first, out, value.get()),
-        Core::SetGlobal(_, value) => put_lines(alloc, marked, lambdas, first, out, value.get()),
-        Core::DefGlobal(_, value) => put_lines(alloc, marked, lambdas, first, out, value.get()),
+        Core::SetLocal(_, value) => put_lines(
+            alloc,
+            marked,
+            lambdas,
+            first,
+            levels,
+            out,
+            value.get(),
+        ),
+        Core::SetGlobal(_, value) => put_lines(
+            alloc,
+            marked,
+            lambdas,
+            first,
+            levels,
+            out,
+            value.get(),
+        ),
+        Core::DefGlobal(_, value) => put_lines(
+            alloc,
+            marked,
+            lambdas,
+            first,
+            levels,
+            out,
+            value.get(),
+        ),
         Core::Let(_, values, body) => {
             put_line(
                 out,
@@ -261,14 +295,38 @@ fn put_lines(
                 expr.site,
                 order_of_all(alloc, marked, values.as_slice())?,
             )?;
-            put_lines_of_all(alloc, marked, lambdas, first, out, values.as_slice())?;
-            put_lines(alloc, marked, lambdas, first, out, body.get())
+            put_lines_of_all(
+                alloc,
+                marked,
+                lambdas,
+                first,
+                levels,
+                out,
+                values.as_slice(),
+            )?;
+            put_lines(alloc, marked, lambdas, first, levels, out, body.get())
         }
         Core::Letrec(_, numbers, body) => {
-            put_lines_of_lambdas(alloc, marked, lambdas, first, out, numbers.as_slice())?;
-            put_lines(alloc, marked, lambdas, first, out, body.get())
+            put_lines_of_lambdas(
+                alloc,
+                marked,
+                lambdas,
+                first,
+                levels,
+                out,
+                numbers.as_slice(),
+            )?;
+            put_lines(alloc, marked, lambdas, first, levels, out, body.get())
         }
-        Core::Seq(exprs) => put_lines_of_all(alloc, marked, lambdas, first, out, exprs.as_slice()),
+        Core::Seq(exprs) => put_lines_of_all(
+            alloc,
+            marked,
+            lambdas,
+            first,
+            levels,
+            out,
+            exprs.as_slice(),
+        ),
         Core::Call(operator, operands) => {
             put_line(
                 out,
@@ -276,8 +334,16 @@ fn put_lines(
                 expr.site,
                 order_of_call(alloc, marked, operator.get(), operands.as_slice())?,
             )?;
-            put_lines(alloc, marked, lambdas, first, out, operator.get())?;
-            put_lines_of_all(alloc, marked, lambdas, first, out, operands.as_slice())
+            put_lines(alloc, marked, lambdas, first, levels, out, operator.get())?;
+            put_lines_of_all(
+                alloc,
+                marked,
+                lambdas,
+                first,
+                levels,
+                out,
+                operands.as_slice(),
+            )
         }
         Core::Prim(_, operands) => {
             put_line(
@@ -286,7 +352,15 @@ fn put_lines(
                 expr.site,
                 order_of_all(alloc, marked, operands.as_slice())?,
             )?;
-            put_lines_of_all(alloc, marked, lambdas, first, out, operands.as_slice())
+            put_lines_of_all(
+                alloc,
+                marked,
+                lambdas,
+                first,
+                levels,
+                out,
+                operands.as_slice(),
+            )
         }
         Core::Apply(procedure, list) => {
             put_line(
@@ -295,8 +369,8 @@ fn put_lines(
                 expr.site,
                 order_of_apply(alloc, marked, procedure.get(), list.get())?,
             )?;
-            put_lines(alloc, marked, lambdas, first, out, procedure.get())?;
-            put_lines(alloc, marked, lambdas, first, out, list.get())
+            put_lines(alloc, marked, lambdas, first, levels, out, procedure.get())?;
+            put_lines(alloc, marked, lambdas, first, levels, out, list.get())
         }
     }
 }
@@ -309,13 +383,15 @@ fn put_lines_of_all(
     marked: &[bool],
     lambdas: &[Lambda],
     first: usize,
+    levels: u32,
     out: &mut Vec<OrderLine>,
     exprs: &[Expr],
 ) -> Result<(), NoMemory>
+    requires { levels ≤ 1000 }
     ensures { OnOk result (map view_line out.new.items ≡ map view_line out.old.items ++ orders.lines_all (is_marked marked.now) (orders.lambdas_lines (is_marked marked.now) (map view_lambda lambdas.now) first) (trees (map view exprs.now))) }
 {
     for expr in exprs {
-        put_lines(alloc, marked, lambdas, first, out, expr)?;
+        put_lines(alloc, marked, lambdas, first, levels, out, expr)?;
     }
     Ok(())
 }
@@ -328,13 +404,15 @@ fn put_lines_of_lambdas(
     marked: &[bool],
     lambdas: &[Lambda],
     first: usize,
+    levels: u32,
     out: &mut Vec<OrderLine>,
     numbers: &[LambdaId],
 ) -> Result<(), NoMemory>
+    requires { levels ≤ 1000 }
     ensures { OnOk result (map view_line out.new.items ≡ map view_line out.old.items ++ orders.lines_of_lambdas (orders.lambdas_lines (is_marked marked.now) (map view_lambda lambdas.now) first) numbers.now) }
 {
     for number in numbers {
-        put_lines_of_lambda(alloc, marked, lambdas, first, out, *number)?;
+        put_lines_of_lambda(alloc, marked, lambdas, first, levels, out, *number)?;
     }
     Ok(())
 }
@@ -347,9 +425,11 @@ fn put_lines_of_lambda(
     marked: &[bool],
     lambdas: &[Lambda],
     first: usize,
+    levels: u32,
     out: &mut Vec<OrderLine>,
     number: LambdaId,
 ) -> Result<(), NoMemory>
+    requires { levels ≤ 1000 }
     ensures { OnOk result (map view_line out.new.items ≡ map view_line out.old.items ++ orders.lambdas_lines (is_marked marked.now) (map view_lambda lambdas.now) first number) }
 {
     let number = number as usize;
@@ -363,6 +443,7 @@ fn put_lines_of_lambda(
         marked,
         after(lambdas, index),
         number + 1,
+        levels,
         out,
         &lambda.body,
     )
@@ -370,7 +451,8 @@ fn put_lines_of_lambda(
 
 /// The order in which the operands of a program are evaluated: a line for each call, primitive use, application
 /// and `let`, in written order, with the numbers of the operands that are not simple, ascending, and then of
-/// those that are. Operand 0 of a call is its operator.
+/// those that are. Operand 0 of a call is its operator. Want of memory is also the answer where nodes nest deeper
+/// than 1,000, which `check` refuses.
 pub fn operand_order(alloc: Global, program: &Program) -> Result<Order, NoMemory>
     ensures { IfOk result (λ order. map view_line order ≡ orders.order_of (view_program program.now)) }
 {
@@ -382,6 +464,7 @@ pub fn operand_order(alloc: Global, program: &Program) -> Result<Order, NoMemory
         marked.as_slice(),
         program.lambdas.as_slice(),
         0,
+        MAX_DEPTH,
         &mut out,
         program.forms.as_slice(),
     )?;

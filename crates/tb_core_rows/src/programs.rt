@@ -61,7 +61,7 @@ fn innermost(alloc: Global, operands: Option<usize>) -> Result<Expr, NoMemory>
     }
 }
 
-/// So many sequences around a lambda expression, at 2, with so many sequences around the innermost node. That one
+/// So many sequences around the lambda expression 0, at 2, with so many sequences around the innermost node. That one
 /// is at the depth of all sequences and 2.
 pub fn deep(
     alloc: Global,
@@ -72,6 +72,7 @@ pub fn deep(
     requires operands { IfSome operands (λ n. n ≤ 20) }
     requires outer { outer ≤ 2000 }
     requires inner { inner ≤ 2000 }
+    ensures { IfOk result (λ p. length p.lambdas ≡ 1) }
 {
     let body = nested(alloc, 3, inner, innermost(alloc, operands)?)?;
     let lambda = lambda(alloc, 2, 0, false, body)?;

@@ -146,6 +146,32 @@ fn depths(rt: HostRuntime) -> Result<(), Fail> {
     Ok(())
 }
 
+/// Whether the order of the operands, and the free variables of the lambda expression, are found with ample memory.
+fn found(alloc: Global, outer: usize, inner: usize) -> Result<(bool, bool), NoMemory>
+    requires outer { outer ≤ 2000 }
+    requires inner { inner ≤ 2000 }
+{
+    let program = deep(alloc, outer, inner, None)?;
+    let order = operand_order(alloc, &program);
+    let free = free_vars(alloc, &program, 0);
+    Ok((order.is_ok(), free.is_ok()))
+}
+
+#[test]
+fn depths_that_are_found(rt: HostRuntime) -> Result<(), Fail> {
+    let alloc = rt.alloc();
+    let rows = [
+        ("depth 1,000", found(alloc, 500, 498)?, (true, true)),
+        ("depth 1,001", found(alloc, 500, 499)?, (false, true)),
+        ("a body of 1,000", found(alloc, 0, 999)?, (false, true)),
+        ("a body of 1,001", found(alloc, 0, 1000)?, (false, false)),
+    ];
+    for (name, got, want) in &rows {
+        assert_eq!(rt; *got, *want, "{}", name);
+    }
+    Ok(())
+}
+
 #[test]
 fn order_of_operands(rt: HostRuntime) -> Result<(), Fail> {
     let program = cons_of_car(rt.alloc())?;

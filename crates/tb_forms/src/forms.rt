@@ -27,17 +27,17 @@ fn refusal_at(unread: Unread, place: Place) -> FormRefusal
 /// The expressions that the data of a text are, at most 1,000 in all, or the place of the first datum that is
 /// none, or that would bring them past 1,000. The recursion is as deep as the data nest, and no datum is read
 /// further than its 1,001st expression.
-pub fn forms_of(alloc: Global, data: &[Datum]) -> Result<Vec<Expr>, FormRefusal>
+pub fn forms_of(alloc: Global, datums: &[Datum]) -> Result<Vec<Expr>, FormRefusal>
     ensures small { IfOk result (λ exprs. IsSmall (trees (map view exprs.items))) }
-    ensures accepted { IfOk result (λ exprs. AreAccepted (data_view.trees (map data_view.view «data».now)) (trees (map view exprs.items))) }
-    ensures refused { IfErr result (λ refusal. IsRefusal (data_view.trees (map data_view.view «data».now)) refusal) }
+    ensures accepted { IfOk result (λ exprs. AreAccepted (data_view.trees (map data_view.view datums.now)) (trees (map view exprs.items))) }
+    ensures refused { IfErr result (λ refusal. IsRefusal (data_view.trees (map data_view.view datums.now)) refusal) }
 {
     let mut counts = Counts {
         nodes: 0,
         variables: 0,
     };
     let mut exprs = Vec::new(alloc);
-    for datum in data {
+    for datum in datums {
         match read_form(alloc, &mut counts, &[], datum) {
             Ok(expr) => exprs.push(expr)?,
             Err(unread) => return Err(refusal_at(unread, datum.place)),

@@ -16,31 +16,31 @@ use tb_prim::{Prim, Row, arity};
 use tb_sexp::{Datum, Node};
 
 /// The first datum and those after it.
-pub fn first_and_rest(data: &[Datum]) -> Option<(&Datum, &[Datum])>
-    ensures { MatchOption result (data_view.trees (map data_view.view data.now) ≡ datum.none) (λ parts. data_view.trees (map data_view.view data.now) ≡ datum.more (data_view.view parts.0.now) (data_view.trees (map data_view.view parts.1.now))) }
+pub fn first_and_rest(datums: &[Datum]) -> Option<(&Datum, &[Datum])>
+    ensures { MatchOption result (data_view.trees (map data_view.view datums.now) ≡ datum.none) (λ parts. data_view.trees (map data_view.view datums.now) ≡ datum.more (data_view.view parts.0.now) (data_view.trees (map data_view.view parts.1.now))) }
 {
-    if data.is_empty() {
+    if datums.is_empty() {
         None
     } else {
-        Some((&data[0], &data[1..]))
+        Some((&datums[0], &datums[1..]))
     }
 }
 
 /// How many data there are.
 #[tactic(auto, using(crate::proofs::Rows::data_counted))]
-pub fn data_count(data: &[Datum]) -> usize
-    ensures { result ≡ count_data (data_view.trees (map data_view.view data.now)) }
+pub fn data_count(datums: &[Datum]) -> usize
+    ensures { result ≡ count_data (data_view.trees (map data_view.view datums.now)) }
 {
-    data.len()
+    datums.len()
 }
 
 /// Both data, where there are two.
 #[tactic(auto, using(crate::proofs::Rows::paired))]
-pub fn pair(data: &[Datum]) -> Option<(&Datum, &Datum)>
-    ensures { MatchOption result (IsNoPair (data_view.trees (map data_view.view data.now))) (λ parts. data_view.trees (map data_view.view data.now) ≡ datum.more (data_view.view parts.0.now) (datum.more (data_view.view parts.1.now) datum.none)) }
+pub fn pair(datums: &[Datum]) -> Option<(&Datum, &Datum)>
+    ensures { MatchOption result (IsNoPair (data_view.trees (map data_view.view datums.now))) (λ parts. data_view.trees (map data_view.view datums.now) ≡ datum.more (data_view.view parts.0.now) (datum.more (data_view.view parts.1.now) datum.none)) }
 {
-    if data.len() == 2 {
-        Some((&data[0], &data[1]))
+    if datums.len() == 2 {
+        Some((&datums[0], &datums[1]))
     } else {
         None
     }

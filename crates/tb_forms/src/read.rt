@@ -137,12 +137,12 @@ fn read_all(
     alloc: Global,
     counts: &mut Counts,
     scope: &[Bound],
-    data: &[Datum],
+    datums: &[Datum],
 ) -> Result<Vec<Expr>, Unread>
-    ensures { Reads (λ exprs. trees (map view exprs.items)) (reading.reading_all 1000 (scope_in scope.now) counts.old.nodes counts.old.variables (data_view.trees (map data_view.view data.now))) result counts.new }
+    ensures { Reads (λ exprs. trees (map view exprs.items)) (reading.reading_all 1000 (scope_in scope.now) counts.old.nodes counts.old.variables (data_view.trees (map data_view.view datums.now))) result counts.new }
 {
     let mut exprs = Vec::new(alloc);
-    for datum in data {
+    for datum in datums {
         let expr = read_form(alloc, counts, scope, datum)?;
         exprs.push(expr)?;
     }

@@ -84,7 +84,7 @@ fn go_text<I: Source, O: Sink, E: Sink>(
     ensures later { O.faults out.old ≤ O.faults out.new }
 {
     match read_all(alloc, text, false) {
-        Ok(data) => go_data(alloc, data.as_slice(), heap, steps, input, out, diag),
+        Ok(datums) => go_data(alloc, datums.as_slice(), heap, steps, input, out, diag),
         Err(ReadRefusal::Syntax(place)) => refuse(diag, 101, place),
         Err(ReadRefusal::Unclosed(place)) => refuse(diag, 102, place),
         Err(ReadRefusal::TooDeep(place)) => refuse(diag, 103, place),
@@ -97,7 +97,7 @@ fn go_text<I: Source, O: Sink, E: Sink>(
 /// Makes forms of the data of a text, compiles them and runs them.
 fn go_data<I: Source, O: Sink, E: Sink>(
     alloc: Global,
-    data: &[Datum],
+    datums: &[Datum],
     heap: u32,
     steps: u64,
     input: &mut I,
@@ -106,14 +106,14 @@ fn go_data<I: Source, O: Sink, E: Sink>(
 ) -> Status
     requires least { 1024 ≤ heap }
     requires most { heap ≤ 33554432 }
-    ensures does { (source bytes : List ℕ) → IsText false bytes (map sexp.view data.now) → TextDoes (record { source = source; heap = heap; steps = steps }) bytes
+    ensures does { (source bytes : List ℕ) → IsText false bytes (map sexp.view datums.now) → TextDoes (record { source = source; heap = heap; steps = steps }) bytes
         (record { before = O.held out.old; now = O.held out.new; faults = O.faults out.old; faults_now = O.faults out.new })
         (record { before = E.held diag.old; now = E.held diag.new; faults = E.faults diag.old; faults_now = E.faults diag.new })
         (number result) }
     ensures input { input.new ≡ input.old }
     ensures later { O.faults out.old ≤ O.faults out.new }
 {
-    match forms_of(alloc, data) {
+    match forms_of(alloc, datums) {
         Ok(forms) => go_forms(alloc, forms.as_slice(), heap, steps, input, out, diag),
         Err(FormRefusal::NotBuilt(place)) => refuse(diag, 115, place),
         Err(FormRefusal::NoMemory) => Status::NoMemory,

@@ -1,8 +1,7 @@
-use Rattle.std.proofs.Common.{◌≡◌, ◌+◌, ◌-◌, ◌≤◌, ◌++◌, [], length, map, sym, ap, ◌∙◌, inl, inr, arith, append-nil}
+use Rattle.std.proofs.Common.{◌≡◌, [], length, map, inl, inr, arith}
 use Rattle.std.proofs.lemmas.List.{length-map}
 use Rattle.tb_core.specs.View.{view_lambda}
 use Rattle.tb_core.specs.FreeVariables.{lambdas_free}
-use Rattle.tb_core.proofs.Judging.{nodes_at}
 use Rattle.tb_core.proofs.FreeByNumber.{free_at, free_past}
 use Rattle.tb_core.proofs.Views.{viewing}
 use Rattle.tb_core.proofs.free.+free.Goals as goal
@@ -17,11 +16,6 @@ put_lambda-returns-then-number-first t c =
       | put_lambda-then-number-first-via-else-number-first+then-lambdas-number w ↦ free_past (map view_lambda c.args.lambdas.now) c.args.first c.args.number (inr (omega (arith, w.if-number-first.false, w.if-lambdas-number.true)))
     ] in
     grind (viewing, past)
-
-pub put_lambda-put_free-requires : goal.put_lambda-put_free-requires
-put_lambda-put_free-requires t c =
-    let fewer = nodes_at c.args.lambdas.now c.after.result.now (c.args.number - c.args.first) c.index-lambdas-index.result c.if-lambdas-number.false c.index-lambdas-index.is c.after.ensures in
-    omega arith
 
 pub put_lambda-returns : goal.put_lambda-returns
 put_lambda-returns t c =

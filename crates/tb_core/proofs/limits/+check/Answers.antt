@@ -1,9 +1,8 @@
-use Rattle.std.proofs.Common.{◌≡◌, ◌+◌, ◌-◌, ◌≤◌, length, map, drop, [], Ok, refl, sym, inl, inr, arith, ap, ◌∙◌}
+use Rattle.std.proofs.Common.{◌≡◌, ◌+◌, ◌-◌, length, map, drop, [], Ok, refl, sym, inl, inr, arith, ap, ◌∙◌}
 use Rattle.std.proofs.lemmas.List.{length-map}
-use Rattle.tb_core.specs.View.{view, view_lambda}
-use Rattle.tb_core.specs.Width.{nodes}
-use Rattle.tb_core.specs.Limits.{judge, lambdas_measures, lambda_measures}
-use Rattle.tb_core.proofs.Judging.{judge_none, lambda_at, nodes_at, nodes_of_lambdas, measures_past, judging}
+use Rattle.tb_core.specs.View.{view_lambda}
+use Rattle.tb_core.specs.Limits.{judge, lambdas_measures}
+use Rattle.tb_core.proofs.Judging.{judge_none, lambda_at, measures_past, judging}
 use Rattle.tb_core.proofs.limits.+check.Goals as goal
 use Rattle.tb_core.proofs.limits.+check.Goals.{check_lambda-then-number-first-via-then-number-first, check_lambda-then-number-first-via-else-number-first+then-lambdas-number}
 
@@ -115,11 +114,6 @@ pub check_lambda-returns-in_err-totals-3-clause-value : goal.check_lambda-return
 check_lambda-returns-in_err-totals-3-clause-value t c =
     let e = lambda_at c.args.lambdas.now (drop (c.args.number - c.args.first + 1) c.args.lambdas.now) c.args.first c.args.number c.index-lambdas-index.result c.args.scope c.args.depth c.if-number-first.false c.if-lambdas-number.false c.index-lambdas-index.is refl in
     grind (judging, e)
-
-pub check_lambda-check_expr-requires : goal.check_lambda-check_expr-requires
-check_lambda-check_expr-requires t c =
-    let fewer = nodes_at c.args.lambdas.now c.after.result.now (c.args.number - c.args.first) c.index-lambdas-index.result c.if-lambdas-number.false c.index-lambdas-index.is c.after.ensures in
-    (omega arith, (omega (arith, c.in_ok-totals-2.ensures.depth), (omega (arith, c.in_ok-totals.ensures.count, c.in_ok-totals-2.ensures.depth, c.parameter_count-count.ensures), c.in_ok-totals-3.ensures.small)))
 
 pub check_lambda-returns-clause-value : goal.check_lambda-returns-clause-value
 check_lambda-returns-clause-value t c =

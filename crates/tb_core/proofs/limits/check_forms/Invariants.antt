@@ -1,4 +1,4 @@
-use Rattle.std.proofs.Common.{◌≡◌, ◌≤◌, map, drop, Ok}
+use Rattle.std.proofs.Common.{◌≡◌, map, drop, Ok}
 use Rattle.tb_core.specs.Limits.{forms_measures, lambdas_measures, judge, no_widths, IsSmall}
 use Rattle.tb_core.specs.View.{view, trees, view_lambda}
 use Rattle.tb_core.proofs.limits.check_forms.Given as goal

@@ -1,10 +1,9 @@
-use Rattle.std.proofs.Common.{ℕ, Bool, List, ◌≡◌, ◌+◌, ◌-◌, ◌≤◌, ◌++◌, [], length, map, sym, ap, ◌∙◌, inl, inr, arith, append-nil, append_assoc}
+use Rattle.std.proofs.Common.{ℕ, Bool, List, ◌≡◌, ◌++◌, [], length, map, sym, ap, ◌∙◌, inl, inr, arith}
 use Rattle.std.proofs.lemmas.List.{length-map}
 use Rattle.tb_core.specs.View.{view, view_lambda}
 use Rattle.tb_core.specs.OperandOrder.{Line, lines, lines_of_lambdas, lambdas_lines}
 use Rattle.tb_core.specs.declared.expr.Expr.{Expr}
 use Rattle.tb_core.specs.Order.{is_marked}
-use Rattle.tb_core.proofs.Judging.{nodes_at}
 use Rattle.tb_core.proofs.LinesByNumber.{put_both, lines_at, lines_past}
 use Rattle.tb_core.proofs.Views.{viewing, letrec_tree}
 use Rattle.tb_core.proofs.order.+lines.Goals as goal
@@ -19,11 +18,6 @@ put_lines_of_lambda-returns-then-number-first t c =
       | put_lines_of_lambda-then-number-first-via-else-number-first+then-lambdas-number w ↦ lines_past (is_marked c.args.marked.now) (map view_lambda c.args.lambdas.now) c.args.first c.args.number (inr (omega (arith, w.if-number-first.false, w.if-lambdas-number.true)))
     ] in
     grind (viewing, past)
-
-pub put_lines_of_lambda-put_lines-requires : goal.put_lines_of_lambda-put_lines-requires
-put_lines_of_lambda-put_lines-requires t c =
-    let fewer = nodes_at c.args.lambdas.now c.after.result.now (c.args.number - c.args.first) c.index-lambdas-index.result c.if-lambdas-number.false c.index-lambdas-index.is c.after.ensures in
-    omega arith
 
 pub put_lines_of_lambda-returns : goal.put_lines_of_lambda-returns
 put_lines_of_lambda-returns t c =

@@ -1,28 +1,24 @@
-use Rattle.std.proofs.Common.{◌≡◌, ◌+◌, ◌≤◌, ◌*◌, ◌++◌, map, drop}
+use Rattle.std.proofs.Common.{◌≡◌, ◌+◌, ◌*◌, ◌++◌, map, drop}
 use Rattle.tb_core.specs.OperandOrder.{lines_all, lines_of_lambdas, lambdas_lines}
 use Rattle.tb_core.specs.Order.{is_marked, view_line}
 use Rattle.tb_core.specs.View.{view, trees, view_lambda}
-use Rattle.tb_core.specs.Width.{nodes, nodes_all}
-use Rattle.tb_core.proofs.Judging.{nodes_of_lambdas}
 use Rattle.tb_core.proofs.order.+lines.Given as goal
 
 abbrev pub decreases-put_lines : goal.decreases-put_lines
-decreases-put_lines l = 3 * nodes (view l.expr.now) + 3 * nodes_of_lambdas (map view_lambda l.lambdas.now)
+decreases-put_lines l = 3 * l.levels
 
 abbrev pub decreases-put_lines_of_all : goal.decreases-put_lines_of_all
-decreases-put_lines_of_all l = 3 * nodes_all (trees (map view l.exprs.now)) + 3 * nodes_of_lambdas (map view_lambda l.lambdas.now) + 2
+decreases-put_lines_of_all l = 3 * l.levels + 2
 
 abbrev pub decreases-put_lines_of_lambdas : goal.decreases-put_lines_of_lambdas
-decreases-put_lines_of_lambdas l = 3 * nodes_of_lambdas (map view_lambda l.lambdas.now) + 2
+decreases-put_lines_of_lambdas l = 3 * l.levels + 2
 
 abbrev pub decreases-put_lines_of_lambda : goal.decreases-put_lines_of_lambda
-decreases-put_lines_of_lambda l = 3 * nodes_of_lambdas (map view_lambda l.lambdas.now) + 1
+decreases-put_lines_of_lambda l = 3 * l.levels + 1
 
 abbrev pub invariant-put_lines_of_all-loop-expr : goal.invariant-put_lines_of_all-loop-expr
-invariant-put_lines_of_all-loop-expr l = record {
-  value : map view_line l.out.items ++ lines_all (is_marked l.marked) (lambdas_lines (is_marked l.marked) (map view_lambda l.lambdas) l.first) (trees (map view (drop l.expr-index l.exprs))) ≡ map view_line l.initial.out.items ++ lines_all (is_marked l.marked) (lambdas_lines (is_marked l.marked) (map view_lambda l.lambdas) l.first) (trees (map view l.exprs));
-  fewer : nodes_all (trees (map view (drop l.expr-index l.exprs))) ≤ nodes_all (trees (map view l.exprs));
-}
+invariant-put_lines_of_all-loop-expr l =
+    map view_line l.out.items ++ lines_all (is_marked l.marked) (lambdas_lines (is_marked l.marked) (map view_lambda l.lambdas) l.first) (trees (map view (drop l.expr-index l.exprs))) ≡ map view_line l.initial.out.items ++ lines_all (is_marked l.marked) (lambdas_lines (is_marked l.marked) (map view_lambda l.lambdas) l.first) (trees (map view l.exprs))
 
 abbrev pub invariant-put_lines_of_lambdas-loop-number : goal.invariant-put_lines_of_lambdas-loop-number
 invariant-put_lines_of_lambdas-loop-number l =

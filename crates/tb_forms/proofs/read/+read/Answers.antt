@@ -8,16 +8,16 @@ use Rattle.tb_forms.proofs.Loops.{form_put, forms_put, value_put, values_put, re
 use Rattle.tb_forms.proofs.read.+read.Goals as goal
 
 pub read_all-read_form-requires : goal.read_all-read_form-requires
-read_all-read_form-requires t c = let h = element_lighter c.args.data.now c.loop-datum.datum-index c.datum-item.result (omega arith) c.datum-item.is in omega (arith, h, c.decreases)
+read_all-read_form-requires t c = let h = element_lighter c.args.datums.now c.loop-datum.datum-index c.datum-item.result (omega arith) c.datum-item.is in omega (arith, h, c.decreases)
 
 pub read_all-loop-datum-preserved : goal.read_all-loop-datum-preserved
 read_all-loop-datum-preserved t c =
-    form_put 1000 (scope_in c.args.scope.now) c.loop-datum.counts.nodes c.loop-datum.counts.variables c.read_form.new.counts.nodes c.read_form.new.counts.variables c.args.data.now c.loop-datum.datum-index c.datum-item.result
+    form_put 1000 (scope_in c.args.scope.now) c.loop-datum.counts.nodes c.loop-datum.counts.variables c.read_form.new.counts.nodes c.read_form.new.counts.variables c.args.datums.now c.loop-datum.datum-index c.datum-item.result
     c.loop-datum.exprs.items c.push.new.self.items c.in_ok-expr.expr (omega arith) c.datum-item.is c.in_ok-expr.ensures c.in_ok-push.ensures.items
     ∙ c.loop-datum.invariant
 
 pub read_all-returns : goal.read_all-returns
-read_all-returns t c = forms_put 1000 (scope_in c.args.scope.now) c.loop-datum.counts.nodes c.loop-datum.counts.variables c.args.data.now c.loop-datum.datum-index c.loop-datum.exprs.items _ (omega arith) c.loop-datum.invariant
+read_all-returns t c = forms_put 1000 (scope_in c.args.scope.now) c.loop-datum.counts.nodes c.loop-datum.counts.variables c.args.datums.now c.loop-datum.datum-index c.loop-datum.exprs.items _ (omega arith) c.loop-datum.invariant
 
 pub read_bindings-read_value-requires : goal.read_bindings-read_value-requires
 read_bindings-read_value-requires t c = let h = element_lighter c.args.bindings.now c.loop-binding.binding-index c.binding-item.result (omega arith) c.binding-item.is in omega (arith, h, c.decreases)

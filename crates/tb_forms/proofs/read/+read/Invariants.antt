@@ -16,7 +16,7 @@ abbrev pub decreases-read_list : goal.decreases-read_list
 decreases-read_list l = weight_all (data_view.trees (map data_view.view l.elements.now))
 
 abbrev pub decreases-read_all : goal.decreases-read_all
-decreases-read_all l = weight_all (data_view.trees (map data_view.view l.data.now))
+decreases-read_all l = weight_all (data_view.trees (map data_view.view l.datums.now))
 
 abbrev pub decreases-read_let : goal.decreases-read_let
 decreases-read_let l = weight_all (data_view.trees (map data_view.view l.operands.now))
@@ -38,8 +38,8 @@ decreases-read_second l = weight_all (data_view.trees (map data_view.view l.elem
 
 abbrev pub invariant-read_all-loop-datum : goal.invariant-read_all-loop-datum
 invariant-read_all-loop-datum l =
-    before_forms (map view l.exprs.items) (reading_all 1000 (scope_in l.scope) l.counts.nodes l.counts.variables (data_view.trees (map data_view.view (drop l.datum-index l.data))))
-    ≡ reading_all 1000 (scope_in l.scope) l.initial.counts.nodes l.initial.counts.variables (data_view.trees (map data_view.view l.data))
+    before_forms (map view l.exprs.items) (reading_all 1000 (scope_in l.scope) l.counts.nodes l.counts.variables (data_view.trees (map data_view.view (drop l.datum-index l.datums))))
+    ≡ reading_all 1000 (scope_in l.scope) l.initial.counts.nodes l.initial.counts.variables (data_view.trees (map data_view.view l.datums))
 
 abbrev pub invariant-read_bindings-loop-binding : goal.invariant-read_bindings-loop-binding
 invariant-read_bindings-loop-binding l =
