@@ -6,6 +6,7 @@ use Rattle.tb_sexp.specs.declared.token.Mark.TheVariants.{Quote, Quasiquote, Unq
 use Rattle.tb_sexp.specs.declared.frames.Frame.{Frame as FrameCode}
 use Rattle.tb_sexp.specs.declared.frames.Frame.TheVariants as code
 use Rattle.tb_sexp.specs.declared.frames.Open.{Open as OpenCode}
+use Rattle.tb_sexp.specs.Tails.{view_tail}
 use Rattle.tb_sexp.specs.Tree.{Tree, At, Shape, Nil, Truth, Fixnum, Character, String, Name, Proper, Dotted, Vector, Trees, none, more}
 use Rattle.tb_sexp.specs.View.{trees, view}
 
@@ -26,7 +27,7 @@ abbrev pub view_frame : FrameCode → Frame
 view_frame (code.Mark p m) = InMark p m
 view_frame (code.List p ds) = InList p (map view ds.items)
 view_frame (code.AfterDot p ds) = AfterDot p (map view ds.items)
-view_frame (code.AfterTail p ds d) = AfterTail p (map view ds.items) (view d)
+view_frame (code.AfterTail p ds t) = AfterTail p (map view ds.items) (view_tail t)
 view_frame (code.Vector p ds) = InVector p (map view ds.items)
 
 abbrev pub view_state : OpenCode → State

@@ -6,6 +6,7 @@ pub mod Places
 pub mod Printing
 pub mod Tree
 pub mod View
+pub mod Tails
 pub mod Frames
 pub mod Reading
 pub mod Runs

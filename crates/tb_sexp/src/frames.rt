@@ -1,14 +1,16 @@
 ghost use Rattle.std.specs.Prelude.{◌≡◌, [], ◌∷◌, ◌++◌, map, IfOk, OnOk};
 ghost use Rattle.tb_sexp.specs.Frames as frames;
-ghost use Rattle.tb_sexp.specs.Frames.{list_of, marked, name_of_mark, view_frame, view_state};
-ghost use Rattle.tb_sexp.specs.Tree.{At, Name, Proper};
-ghost use Rattle.tb_sexp.specs.View.{trees, view, view_node};
+ghost use Rattle.tb_sexp.specs.Frames.{marked, name_of_mark, view_frame, view_state};
+ghost use Rattle.tb_sexp.specs.Tails.{view_tail};
+ghost use Rattle.tb_sexp.specs.Tree.{At, Name};
+ghost use Rattle.tb_sexp.specs.View.{view};
 
 use super::stack::Stack;
+use super::tails::{Tail, into_datum, list};
 use super::token::Mark;
 use super::{Datum, Node};
 use std::alloc::Global;
-use tb_prim::{Bytes, NoMemory, Place, Row};
+use tb_prim::{Bytes, NoMemory, Place};
 
 /// What is not finished: its place, and its elements so far. `AfterTail` has the tail of a dotted list too.
 #[derive(Drop)]
@@ -16,7 +18,7 @@ pub enum Frame {
     Mark(Place, Mark),
     List(Place, Vec<Datum>),
     AfterDot(Place, Vec<Datum>),
-    AfterTail(Place, Vec<Datum>, Datum),
+    AfterTail(Place, Vec<Datum>, Tail),
     Vector(Place, Vec<Datum>),
 }
 
@@ -56,33 +58,13 @@ fn pair(alloc: Global, first: Datum, second: Datum) -> Result<Vec<Datum>, NoMemo
     Ok(elements)
 }
 
-fn proper(place: Place, elements: Vec<Datum>) -> Datum
-    ensures { view result ≡ At place (Proper (trees (map view elements.items))) }
-{
-    Datum {
-        place,
-        node: Node::List(Row::from_vec(elements), None),
-    }
-}
-
 /// The list of a name and the datum, both at the place of the mark.
-fn marked_datum(alloc: Global, place: Place, mark: Mark, datum: Datum) -> Result<Datum, NoMemory>
-    ensures { IfOk result (λ d. view d ≡ marked place mark (view datum)) }
+fn marked_datum(alloc: Global, place: Place, mark: Mark, datum: Datum) -> Result<Tail, NoMemory>
+    ensures { IfOk result (λ all. view_tail all ≡ marked place mark (view datum)) }
 {
     let name = name_datum(alloc, place, mark_name(mark))?;
     let elements = pair(alloc, name, datum)?;
-    Ok(proper(place, elements))
-}
-
-/// The list of the elements.
-pub fn list_node(elements: Vec<Datum>) -> Node
-    ensures { view_node result ≡ list_of (map view elements.items) }
-{
-    if elements.is_empty() {
-        Node::Nil
-    } else {
-        Node::List(Row::from_vec(elements), None)
-    }
+    Ok(list(place, elements))
 }
 
 fn put_element(elements: &mut Vec<Datum>, datum: Datum) -> Result<(), NoMemory>
@@ -93,27 +75,29 @@ fn put_element(elements: &mut Vec<Datum>, datum: Datum) -> Result<(), NoMemory>
 }
 
 /// Gives a finished datum to what waits for it. The recursion goes over marks in a row.
-pub fn give(alloc: Global, state: &mut Open, datum: Datum) -> Result<(), NoMemory>
-    ensures { OnOk result (view_state state.new ≡ frames.give (map view state.old.finished.items) (map view_frame state.old.frames) (view datum)) }
+pub fn give(alloc: Global, state: &mut Open, finished: Tail) -> Result<(), NoMemory>
+    ensures { OnOk result (view_state state.new ≡ frames.give (map view state.old.finished.items) (map view_frame state.old.frames) (view_tail finished)) }
 {
     match state.frames.pop() {
-        None => put_element(&mut state.finished, datum),
+        None => put_element(&mut state.finished, into_datum(finished)),
         Some(Frame::Mark(place, mark)) => {
-            let whole = marked_datum(alloc, place, mark, datum)?;
+            let whole = marked_datum(alloc, place, mark, into_datum(finished))?;
             give(alloc, state, whole)
         }
         Some(Frame::List(place, mut elements)) => {
-            put_element(&mut elements, datum)?;
+            put_element(&mut elements, into_datum(finished))?;
             state.frames.push(Frame::List(place, elements))
         }
         Some(Frame::AfterDot(place, elements)) => {
-            state.frames.push(Frame::AfterTail(place, elements, datum))
+            state
+                .frames
+                .push(Frame::AfterTail(place, elements, finished))
         }
         Some(Frame::AfterTail(place, elements, tail)) => {
             state.frames.push(Frame::AfterTail(place, elements, tail))
         }
         Some(Frame::Vector(place, mut elements)) => {
-            put_element(&mut elements, datum)?;
+            put_element(&mut elements, into_datum(finished))?;
             state.frames.push(Frame::Vector(place, elements))
         }
     }

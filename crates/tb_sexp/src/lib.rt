@@ -17,6 +17,7 @@ mod refusal;
 mod scan;
 mod stack;
 mod strings;
+mod tails;
 mod token;
 
 pub use datum::{Datum, DatumRow, Node};

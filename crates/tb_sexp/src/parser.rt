@@ -1,102 +1,19 @@
 ghost use Rattle.std.specs.Prelude.{◌≡◌, map, IfOk, OnOk};
-ghost use Rattle.tb_sexp.specs.Frames.{dotted, front_of, view_frame, view_state};
+ghost use Rattle.tb_sexp.specs.Frames.{view_frame, view_state};
 ghost use Rattle.tb_sexp.specs.Reading as reading;
 ghost use Rattle.tb_sexp.specs.Reading.{Accepts, accept, begin, deep_mark};
-ghost use Rattle.tb_sexp.specs.Tree.{At, Dotted};
-ghost use Rattle.tb_sexp.specs.View.{trees, view, view_node};
+ghost use Rattle.tb_sexp.specs.View.{view, view_node};
 
-use super::frames::{Frame, Open, give, list_node};
+use super::frames::{Frame, Open, give};
 use super::scan::blanks;
+use super::tails::{Tail, dotted_list, list};
 use super::token::Token;
-use super::{Datum, DatumRow, Node, ReadRefusal};
-use sqlite_items::Boxed;
+use super::{Datum, Node, ReadRefusal};
 use std::alloc::Global;
 use tb_prim::{NoMemory, Place, Row};
 
 /// The most lists, vectors and marks that are not finished.
 const DEPTH: usize = 256;
-
-fn joined(mut front: Vec<Datum>, mut back: Vec<Datum>) -> Result<Vec<Datum>, NoMemory>
-    ensures { IfOk result (λ elements. trees (map view elements.items) ≡ front_of (map view front.items) (trees (map view back.items))) }
-{
-    front.append(&mut back)?;
-    Ok(front)
-}
-
-fn dotted_row(elements: DatumRow, tail: Boxed<Datum>) -> Node
-    ensures { view_node result ≡ Dotted (trees (map view elements)) (view tail) }
-{
-    Node::List(elements, Some(tail))
-}
-
-fn with_tail(alloc: Global, elements: Vec<Datum>, tail: Datum) -> Result<Node, NoMemory>
-    ensures { IfOk result (λ node. view_node node ≡ Dotted (trees (map view elements.items)) (view tail)) }
-{
-    let boxed = Boxed::new(alloc, tail)?;
-    Ok(dotted_row(Row::from_vec(elements), boxed))
-}
-
-/// The dotted list, or the list that it denotes where its tail is one.
-fn dotted_node(alloc: Global, elements: Vec<Datum>, tail: Datum) -> Result<Node, NoMemory>
-    ensures { IfOk result (λ node. view_node node ≡ dotted (map view elements.items) (view tail)) }
-{
-    let Datum { place, node } = tail;
-    match node {
-        Node::Nil => Ok(list_node(elements)),
-        Node::List(more, end) => {
-            let all = joined(elements, more.into_vec())?;
-            Ok(Node::List(Row::from_vec(all), end))
-        }
-        Node::Bool(b) => with_tail(
-            alloc,
-            elements,
-            Datum {
-                place,
-                node: Node::Bool(b),
-            },
-        ),
-        Node::Fix(n) => with_tail(
-            alloc,
-            elements,
-            Datum {
-                place,
-                node: Node::Fix(n),
-            },
-        ),
-        Node::Char(c) => with_tail(
-            alloc,
-            elements,
-            Datum {
-                place,
-                node: Node::Char(c),
-            },
-        ),
-        Node::Str(text) => with_tail(
-            alloc,
-            elements,
-            Datum {
-                place,
-                node: Node::Str(text),
-            },
-        ),
-        Node::Name(text, alias) => with_tail(
-            alloc,
-            elements,
-            Datum {
-                place,
-                node: Node::Name(text, alias),
-            },
-        ),
-        Node::Vector(items) => with_tail(
-            alloc,
-            elements,
-            Datum {
-                place,
-                node: Node::Vector(items),
-            },
-        ),
-    }
-}
 
 /// Whether a datum can stand here. What is open stays as it is.
 pub fn takes_datum(state: &mut Open) -> Result<bool, NoMemory>
@@ -121,18 +38,17 @@ fn close(alloc: Global, state: &mut Open, place: Place) -> Result<(), ReadRefusa
 {
     match state.frames.pop() {
         Some(Frame::List(start, elements)) => {
-            let node = list_node(elements);
-            give(alloc, state, Datum { place: start, node })?;
+            give(alloc, state, list(start, elements))?;
             Ok(())
         }
         Some(Frame::AfterTail(start, elements, tail)) => {
-            let node = dotted_node(alloc, elements, tail)?;
-            give(alloc, state, Datum { place: start, node })?;
+            let whole = dotted_list(alloc, start, elements, tail)?;
+            give(alloc, state, whole)?;
             Ok(())
         }
         Some(Frame::Vector(start, elements)) => {
             let node = Node::Vector(Row::from_vec(elements));
-            give(alloc, state, Datum { place: start, node })?;
+            give(alloc, state, Tail::Whole(Datum { place: start, node }))?;
             Ok(())
         }
         Some(Frame::Mark(_, _)) => Err(ReadRefusal::Syntax(place)),
@@ -196,7 +112,7 @@ fn put_datum(alloc: Global, state: &mut Open, place: Place, node: Node) -> Resul
     ensures { Accepts (reading.datum (view_state state.old) place (view_node node)) result (view_state state.new) }
 {
     if takes_datum(state)? {
-        give(alloc, state, Datum { place, node })?;
+        give(alloc, state, Tail::Whole(Datum { place, node }))?;
         Ok(())
     } else {
         Err(ReadRefusal::Syntax(place))
