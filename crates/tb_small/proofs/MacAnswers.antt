@@ -6,10 +6,11 @@ use Rattle.tb_prim.specs.declared.event.Cause.{Cause}
 use Rattle.tb_prim.specs.declared.primitive.Primitive.{Primitive}
 use Rattle.tb_prim.specs.declared.primitive.Primitive.TheVariants.{WriteChar, Add, Sub, NumEq, Less}
 use Rattle.tb_core.specs.Store.{Value, Fix, Char, Truth, Nil, Unspecified, Undefined, EndObject, At}
-use Rattle.tb_core.specs.Effects.{Effect, Gives, Puts, Fails, is_false, effect_1, effect_2, with_fix, gives_fix, gives_truth, is_fixnum, same_int}
-use Rattle.tb_macm.specs.declared.primitive.Answer.{Answer}
-use Rattle.tb_macm.specs.declared.primitive.Answer.TheVariants as A
-use Rattle.tb_macm.specs.MacStep.{on_fixnum, fixnum, boolean, primitive_1, primitive_2, is_false as is_false_word}
+use Rattle.tb_prim.specs.Fixnums.{is_fixnum}
+use Rattle.tb_core.specs.Effects.{Effect, Gives, Puts, Fails, is_false, effect_1, effect_2, with_fix, gives_fix, gives_truth, same_int}
+use Rattle.tb_small_mac.specs.declared.primitive.Answer.{Answer}
+use Rattle.tb_small_mac.specs.declared.primitive.Answer.TheVariants as A
+use Rattle.tb_small_mac.specs.MacStep.{on_fixnum, fixnum, boolean, primitive_1, primitive_2, is_false as is_false_word}
 use Rattle.tb_small.specs.Generate.{number_2}
 use Rattle.tb_small.specs.Built.{IsBinary, word_of}
 

@@ -15,12 +15,12 @@ use Rattle.tb_core.specs.Effects.{is_false, effect_of}
 use Rattle.tb_core.specs.Width.{nodes_all}
 use Rattle.tb_core.specs.Reference.{Context}
 use Rattle.tb_core.proofs.Members.{in-left, in-right, in-tested, tested-in, in-without}
-use Rattle.tb_macm.specs.declared.code.Instr.{Instr}
-use Rattle.tb_macm.specs.declared.code.Instr.TheVariants.{Load, Jump, Brf, Imm, Op1, Op2}
-use Rattle.tb_macm.specs.declared.code.PlaceEntry.{PlaceEntry}
-use Rattle.tb_macm.specs.Words.{on_some, imm_word}
-use Rattle.tb_macm.specs.MacStep.{Mac, stuck, goes, set_register, jump_to, finish, place_of, primitive_1, primitive_2, is_false as is_false_word}
-use Rattle.tb_macm.specs.MacEvents.{Going, next, next_state}
+use Rattle.tb_small_mac.specs.declared.code.Instr.{Instr}
+use Rattle.tb_small_mac.specs.declared.code.Instr.TheVariants.{Load, Jump, Brf, Imm, Op1, Op2}
+use Rattle.tb_small_mac.specs.declared.code.PlaceEntry.{PlaceEntry}
+use Rattle.tb_small_mac.specs.Words.{on_some, imm_word}
+use Rattle.tb_small_mac.specs.MacStep.{Mac, stuck, goes, set_register, jump_to, finish, place_of, primitive_1, primitive_2, is_false as is_false_word}
+use Rattle.tb_small_mac.specs.MacEvents.{Going, next, next_state}
 use Rattle.tb_small.specs.Generate.{Slots, in_slot, slot_of, slots_from, never, code, codes, chosen, prim_code, places, all_places, chosen_places, size, form_size, all_size, operand_size, chosen_size, prim_size, bits_of, number_2, result}
 use Rattle.tb_small.specs.Meaning.{Values, has_value, value_in, values_from, Meaning, all_then_all, of_variable, of_effect, by_number, meaning, sequence_meaning, chosen_meanings}
 use Rattle.tb_small.specs.Built.{IsBinary, word_of, HasSlot, HasSlots, HasFrame}

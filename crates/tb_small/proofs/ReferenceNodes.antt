@@ -10,7 +10,8 @@ use Rattle.tb_core.specs.Tree.{Tree, Node, Form, Let, PrimUse, Trees, none, more
 use Rattle.tb_core.specs.FreeVariables.{free, free_form, free_all}
 use Rattle.tb_core.specs.OperandOrder.{operands, line_of}
 use Rattle.tb_core.specs.Store.{Value, Fix, Char, Unspecified, Env, Item, cut, bind_from}
-use Rattle.tb_core.specs.Effects.{Effect, Gives, Puts, Fails, is_fixnum, with_fix, effect_of}
+use Rattle.tb_prim.specs.Fixnums.{is_fixnum}
+use Rattle.tb_core.specs.Effects.{Effect, Gives, Puts, Fails, with_fix, effect_of}
 use Rattle.tb_core.specs.Reference.{Context, Config, Control, Val, Frame, State, Stopped, step, eval, perform, complete, value_for, prepend, arranged, vars}
 use Rattle.tb_core.proofs.Lines.{line-all, line-length, arranged-length}
 use Rattle.tb_small.specs.Generate.{never}
