@@ -10,4 +10,6 @@ pub mod Space
 pub mod Width
 pub mod AnfWidth
 pub mod Rules
+pub mod AnfRules
+pub mod View
 pub mod Examples

@@ -1,5 +1,8 @@
 //! A-normal form.
 
+ghost use Rattle.tb_ir.specs.AnfPlain.{plain_anf};
+ghost use Rattle.tb_ir.specs.AnfRules.{KeepsRules};
+
 use sqlite_items::Boxed;
 use tb_core::{LambdaId, LambdaIdRow, Order, VarId, VarRow};
 use tb_prim::{Const, NameRow, Place, Prim, Row, StaticRow};
@@ -62,11 +65,12 @@ pub type ProcRow = Row<AnfProc>;
 
 /// A whole program: the names of its globals, its constants, the order of operands that it was made by, and its
 /// bodies, first those of the top-level forms in written order and then those of the lambda expressions in the
-/// order of their numbers.
+/// order of their numbers. Its type keeps the rules of `KeepsRules`.
 #[derive(Debug, Drop)]
 pub struct Anf {
     pub globals: NameRow,
     pub statics: StaticRow,
     pub order: Order,
     pub procs: ProcRow,
+    pub ghost rules: { ∥ KeepsRules (plain_anf globals statics order procs) ∥₁ },
 }
