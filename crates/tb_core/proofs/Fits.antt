@@ -6,8 +6,9 @@ use Rattle.tb_prim.specs.declared.event.Cause.{Cause}
 use Rattle.tb_prim.specs.declared.primitive.Primitive.{Primitive}
 use Rattle.tb_prim.specs.declared.primitive.Primitive.TheVariants.{Cons, Car, Cdr, SetCar, SetCdr, IsPair, IsNull, Not, IsBoolean, IsSymbol, IsChar, IsString, IsVector, IsProcedure, IsInteger, IsEof, Eq, Add, Sub, Mul, Quotient, Remainder, Modulo, NumEq, Less, Greater, LessEq, GreaterEq, CharToInt, IntToChar, MakeVector, VectorRef, VectorSet, VectorLength, MakeString, StringRef, StringSet, StringLength, SymbolLength, SymbolRef, ReadChar, PeekChar, WriteChar, Unspecified as UnspecifiedPrim}
 use Rattle.tb_prim.specs.Primitives.{arity_of}
+use Rattle.tb_prim.specs.Fixnums.{is_fixnum}
 use Rattle.tb_core.specs.Store.{Value, Fix, Char, At, Object, Pair, Vec, Str, Sym, Content, Holds}
-use Rattle.tb_core.specs.Effects.{Effect, Gives, Makes, Changes, Puts, Takes, Peeks, Fails, is_fixnum, with_fix, with_char, if_object, with_object, if_pair, if_vector, if_string, if_symbol, with_index, gives_at, gives_fix, with_length, is_zero, effect_0, effect_1, effect_2, effect_3, effect_of}
+use Rattle.tb_core.specs.Effects.{Effect, Gives, Makes, Changes, Puts, Takes, Peeks, Fails, with_fix, with_char, if_object, with_object, if_pair, if_vector, if_string, if_symbol, with_index, gives_at, gives_fix, with_length, is_zero, effect_0, effect_1, effect_2, effect_3, effect_of}
 use Rattle.tb_core.proofs.Stores.{SameObject, pair_kind, vec_kind, str_kind}
 
 -- an effect that can be carried out in the store

@@ -4,7 +4,8 @@ use Rattle.std.proofs.Common.{◌≡◌, refl, ap, subst, ℕ, zero, suc, ℤ, p
 use Rattle.tb_prim.specs.declared.primitive.Primitive.{Primitive}
 use Rattle.tb_prim.specs.declared.primitive.Primitive.TheVariants.{Cons, Car, Cdr, SetCar, SetCdr, IsPair, IsNull, Not, IsBoolean, IsSymbol, IsChar, IsString, IsVector, IsProcedure, IsInteger, IsEof, Eq, Add, Sub, Mul, Quotient, Remainder, Modulo, NumEq, Less, Greater, LessEq, GreaterEq, CharToInt, IntToChar, MakeVector, VectorRef, VectorSet, VectorLength, MakeString, StringRef, StringSet, StringLength, SymbolLength, SymbolRef, ReadChar, PeekChar, WriteChar, Unspecified as UnspecifiedPrim}
 use Rattle.tb_core.specs.Store.{Value, Fix, Char, At, Object, Content}
-use Rattle.tb_core.specs.Effects.{Effect, Gives, is_fixnum, with_fix, with_char, if_object, with_object, if_pair, if_vector, if_string, if_symbol, with_index, gives_at, gives_fix, gives_truth, with_length, is_zero, same_value, is_at, is_pair, is_vector, is_string, is_symbol, is_procedure, is_null, is_boolean, is_char, is_integer, is_eof, is_false, effect_0, effect_1, effect_2, effect_3, effect_of}
+use Rattle.tb_prim.specs.Fixnums.{is_fixnum}
+use Rattle.tb_core.specs.Effects.{Effect, Gives, with_fix, with_char, if_object, with_object, if_pair, if_vector, if_string, if_symbol, with_index, gives_at, gives_fix, gives_truth, with_length, is_zero, same_value, is_at, is_pair, is_vector, is_string, is_symbol, is_procedure, is_null, is_boolean, is_char, is_integer, is_eof, is_false, effect_0, effect_1, effect_2, effect_3, effect_of}
 use Rattle.tb_core.specs.Lists.{Walked, with_element, ends_list, walked_at_limit, walked_pair, content_at, walked}
 use Rattle.tb_core.specs.Partners.{AlikeValues, fix, char, truth, nil, unspecified, undefined, end_object, at, AlikeLists, nothing, further, AlikeObjects, pair, vec, str, sym as symbol, AlikeContents, holds, other, AlikeEffects, gives, makes, changes, puts, takes, peeks, fails, misused, AlikeWalks, elements, too_long, no_list, Partnered}
 

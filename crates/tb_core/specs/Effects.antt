@@ -2,6 +2,7 @@
 -- within this profile).
 -- Checks go in this order: the kinds of the operands from the left, then Range or ZeroDivide, then Overflow.
 use Rattle.std.specs.Prelude.{ℕ, zero, ◌^◌, ℤ, pos, negsuc, ◌+ℤ◌, ◌-ℤ◌, ◌*ℤ◌, int_lt, int_le, int_div, int_rem, Bool, true, false, not, cond, ◌==◌, nat_lt, List, [], ◌∷◌, length, replicate, Option, Some, None, slice_get, slice_set}
+use Rattle.tb_prim.specs.Fixnums.{is_fixnum}
 use Rattle.tb_prim.specs.declared.event.Cause.{Cause}
 use Rattle.tb_prim.specs.declared.primitive.Primitive.{Primitive}
 use Rattle.tb_prim.specs.declared.primitive.Primitive.TheVariants.{Cons, Car, Cdr, SetCar, SetCdr, IsPair, IsNull, Not, IsBoolean, IsSymbol, IsChar, IsString, IsVector, IsProcedure, IsInteger, IsEof, Eq, Add, Sub, Mul, Quotient, Remainder, Modulo, NumEq, Less, Greater, LessEq, GreaterEq, CharToInt, IntToChar, MakeVector, VectorRef, VectorSet, VectorLength, MakeString, StringRef, StringSet, StringLength, SymbolLength, SymbolRef, ReadChar, PeekChar, WriteChar, Unspecified as UnspecifiedPrim}
@@ -19,11 +20,6 @@ pub data Effect : Type 0 where
   Peeks : Effect
   Fails : Cause → Effect
   Misused : Effect
-
--- fixnums are the whole numbers from -2^29 to 2^29 - 1
-abbrev pub is_fixnum : ℤ → Bool
-is_fixnum (pos n) = nat_lt n (2 ^ 29)
-is_fixnum (negsuc n) = nat_lt n (2 ^ 29)
 
 abbrev pub wrong_type : Effect
 wrong_type = Fails Cause.WrongType
