@@ -1,8 +1,12 @@
 //! Small programs of the three languages, as the machine of values runs them.
-ghost use Rattle.std.specs.Prelude.{◌≡◌, List, [], ◌∷◌, map};
+ghost use Rattle.std.specs.Prelude.{◌≡◌, ◌^◌, List, [], ◌∷◌, map};
 ghost use Rattle.tb_prim.specs.declared.event.Cause.{Cause};
 ghost use Rattle.tb_prim.specs.declared.event.Event.{Event};
 ghost use Rattle.tb_core.specs.Examples.{spot};
+ghost use Rattle.tb_ir.specs.AnfRules.{KeepsRules as AnfKeepsRules};
+ghost use Rattle.tb_ir.specs.AnfWidth.{all_widths as anf_widths};
+ghost use Rattle.tb_ir.specs.Rules.{IsOrderOf, KeepsRules};
+ghost use Rattle.tb_ir.specs.Width.{all_widths};
 ghost use Rattle.tb_ir.specs.Examples.{AnfEmits, Emits, anf_held, anf_loop, applied, complex_first, deep, dropped_string, early_read, failure_after_output, held, lifted_call, lifted_cell, mutual_closures, rest_parameter, shared_cell, tail_loop};
 
 /// The events of small programs.
@@ -42,4 +46,27 @@ pub fn worked_shapes()
         ≡ (1 ∷ 0 ∷ 0 ∷ 0 ∷ []) ∷ (1 ∷ 0 ∷ 2 ∷ 2 ∷ []) ∷ (1 ∷ 0 ∷ 0 ∷ 2 ∷ []) ∷ (0 ∷ 0 ∷ 0 ∷ 2 ∷ []) ∷ [] }
     ensures anf_loop { map (anf_held anf_loop) (3 ∷ 12 ∷ 26 ∷ 40 ∷ [])
         ≡ (0 ∷ 1 ∷ 1 ∷ 1 ∷ []) ∷ (1 ∷ 1 ∷ 1 ∷ 1 ∷ []) ∷ (1 ∷ 1 ∷ 1 ∷ 1 ∷ []) ∷ (1 ∷ 1 ∷ 1 ∷ 1 ∷ []) ∷ [] }
+{}
+
+/// The programs keep the rules of their types, and their orders are orders for them; and some that do not: a
+/// direct call of a lambda expression that is not lifted, a variable that is named beside its cell, and a cell of
+/// a variable that another body binds.
+pub fn worked_rules()
+    ensures tail_loop { KeepsRules (2 ^ 27) tail_loop.tree × IsOrderOf tail_loop.tree tail_loop.order }
+    ensures deep { KeepsRules (2 ^ 27) deep.tree × IsOrderOf deep.tree deep.order }
+    ensures shared_cell { KeepsRules (2 ^ 27) shared_cell.tree × IsOrderOf shared_cell.tree shared_cell.order }
+    ensures early_read { KeepsRules (2 ^ 27) early_read.tree × IsOrderOf early_read.tree early_read.order }
+    ensures lifted_call { KeepsRules (2 ^ 31) lifted_call.tree × IsOrderOf lifted_call.tree lifted_call.order }
+    ensures mutual_closures { AnfKeepsRules mutual_closures }
+    ensures lifted_cell { AnfKeepsRules lifted_cell }
+    ensures anf_loop { AnfKeepsRules anf_loop }
+{}
+
+/// The widths of bodies and forms, counted by hand.
+pub fn worked_widths()
+    ensures tail_loop { all_widths tail_loop.tree tail_loop.order ≡ 2 ∷ 12 ∷ 3 ∷ [] }
+    ensures shared_cell { all_widths shared_cell.tree shared_cell.order ≡ 11 ∷ 3 ∷ 2 ∷ [] }
+    ensures lifted_call { all_widths lifted_call.tree lifted_call.order ≡ 4 ∷ 7 ∷ [] }
+    ensures mutual_closures { anf_widths mutual_closures ≡ 4 ∷ 2 ∷ 5 ∷ [] }
+    ensures lifted_cell { anf_widths lifted_cell ≡ 3 ∷ 4 ∷ [] }
 {}

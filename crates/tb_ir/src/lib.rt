@@ -10,5 +10,5 @@ mod programs;
 
 pub use anf::{Anf, AnfProc, Atom, AtomRow, Block, Op, ProcRow};
 pub use cells::{CellCore, CellExpr, CellExprRow, CellLambda, CellLambdaRow};
-pub use examples::{worked_programs, worked_shapes};
+pub use examples::{worked_programs, worked_rules, worked_shapes, worked_widths};
 pub use programs::{CellProgram, Lifted};
