@@ -102,6 +102,11 @@ with_value c (Some v) es k = k v
 abbrev pub evaluate_cut : (ℕ → List ℕ) → AnfConfig → Code → Env → AnfFrames → List Event → AnfState
 evaluate_cut captured c e r fs es = go c (Eval e (gather (free_code captured e) r)) fs es
 
+-- the block that is chosen
+abbrev pub run_branch : (ℕ → List ℕ) → AnfConfig → Value → Block → Block → Env → List Event → AnfState
+run_branch captured c v b d r es =
+    cond (is_false v) (evaluate_cut captured c (InBlock d) r c.frames es) (evaluate_cut captured c (InBlock b) r c.frames es)
+
 -- an operation whose environment is cut to it
 abbrev pub run_op : (ℕ → List ℕ) → AnfConfig → Op → Env → List Event → AnfState
 run_op captured c (Atom a) r es = give_value c (atom_value r a) es

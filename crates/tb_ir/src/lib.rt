@@ -6,6 +6,7 @@
 mod anf;
 mod cells;
 mod examples;
+pub mod laws;
 mod programs;
 
 pub use anf::{Anf, AnfProc, Atom, AtomRow, Block, Op, ProcRow};
