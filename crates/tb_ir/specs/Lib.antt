@@ -7,6 +7,7 @@ pub mod Machine
 pub mod TreeMachine
 pub mod AnfMachine
 pub mod Space
+pub mod Measures
 pub mod Width
 pub mod AnfWidth
 pub mod Rules
