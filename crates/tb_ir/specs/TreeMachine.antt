@@ -8,6 +8,7 @@ use Rattle.tb_core.specs.FreeVariables.{without}
 use Rattle.tb_core.specs.OperandOrder.{Line}
 use Rattle.tb_core.specs.Store.{Value, At, value_of}
 use Rattle.tb_core.specs.Effects.{is_false}
+use Rattle.tb_core.specs.Reference.{arranged}
 use Rattle.tb_ir.specs.Tree.{Tree, Node, Form, Quote, Local, Global, Lambda, If, NewCell, CellGet, CellSet, SetGlobal, DefGlobal, Let, Letrec, Seq, Call, Direct, PrimUse, Apply, Trees, none, more, count, tree_at, operands, LambdaTree, ProgramTree}
 use Rattle.tb_ir.specs.FreeVariables.{free, free_form, free_all, inner_free, added_to, captured}
 use Rattle.tb_ir.specs.Machine.{Env, Config, State, Lost, Frame, Bound, Val, Procedure, Language, lookup, gather, bind_all, go, go_with, push, read_value, give_value, make_closure, make_closures, new_cell, get_cell, set_cell, enter, enter_lifted, apply, use_primitive, assign_global, set_global, Eval, machine_of}
@@ -88,21 +89,6 @@ free_of_numbers x es (n ∷ ns) = free_of_tree x (tree_at es n) ++ free_of_numbe
 abbrev pub free_of_body : Context → Form → List ℕ
 free_of_body x (Let xs es e) = without xs (free x.inner e)
 free_of_body x _ = []
-
--- the value of the operand of a number, where the values stand in the order of evaluation
-abbrev pub value_for : ℕ → List ℕ → List Value → Option Value
-value_for i [] vs = None
-value_for i (n ∷ ns) [] = None
-value_for i (n ∷ ns) (v ∷ vs) = cond (n == i) (Some v) (value_for i ns vs)
-
-abbrev pub prepend : Option Value → List Value → List Value
-prepend None vs = vs
-prepend (Some v) vs = v ∷ vs
-
--- the values of so many operands by their numbers, from number i on
-abbrev pub arranged : ℕ → ℕ → List ℕ → List Value → List Value
-arranged i zero line vs = []
-arranged i (suc k) line vs = prepend (value_for i line vs) (arranged (suc i) k line vs)
 
 -- a node whose operands have all been evaluated, with their values by number
 abbrev pub complete : Context → TreeConfig → Place → Form → List Value → Env → Frames → List Event → TreeState
