@@ -1,3 +1,5 @@
 pub mod Free
 pub mod Rel
 pub mod Grow
+pub mod Envs
+pub mod Match
