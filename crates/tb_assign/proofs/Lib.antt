@@ -3,3 +3,4 @@ pub mod Rel
 pub mod Grow
 pub mod Envs
 pub mod Match
+pub mod Shape
