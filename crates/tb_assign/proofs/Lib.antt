@@ -1,0 +1,6 @@
+pub mod Free
+pub mod Rel
+pub mod Grow
+pub mod Envs
+pub mod Match
+pub mod Shape
