@@ -1,14 +1,19 @@
-ghost use Rattle.std.specs.Prelude.{◌<◌, ◌≤◌, ◌^◌, IfOk, IfSome, vec_len};
+ghost use Rattle.std.specs.Prelude.{◌≡◌, ◌≢◌, ◌↔◌, ◌<◌, ◌≤◌, ◌^◌, IfOk, IfSome, vec_len};
+ghost use Rattle.std.specs.declared.io.ErrorKind.TheVariants as Kind;
 ghost use Rattle.tb_base.specs.Outside.{GivesAll};
+ghost use Rattle.tb_base.specs.declared.outside.LoadFault.TheVariants as Fault;
 
 use super::fault_names::{note_name, reserve_name};
 use super::{LoadFault, SaveFault, Store};
 use std::alloc::Global;
-use std::fs;
-use std::io::{ErrorKind, Read, Write};
+use std::fs::{self, OpenOptions};
+use std::io::{self, ErrorKind, Read, Write};
 use std::marker::Model;
 use std::rt::Files;
 use tb_prim::Bytes;
+
+/// How many names beside a file are tried: NAME.new0, NAME.new1 and so on.
+const SIDE_NAMES: u32 = 100;
 
 /// The files of the runtime. It does not tell what they hold.
 #[derive(Drop)]
@@ -76,9 +81,8 @@ impl<R: Files> Store for RealStore<R> {
         }
     }
 
-    /// Writes a file of that name with `.new` behind it, and then renames it, so that a refusal leaves the old
-    /// file whole. What stood at the name is replaced, a link too. A file of the longer name is overwritten, and
-    /// removed after a refusal.
+    /// Writes a file beside it, under a name that is free, and then renames that, so that a refusal leaves the old
+    /// file whole. What stood at the name is replaced, a link too. A file beside it is removed after a refusal.
     fn save(&mut self, alloc: Global, name: &str, bytes: &[u8]) -> Result<(), SaveFault>
         ensures does { SaveDoes None None name.now bytes.now result }
         ensures cause { SaveHasCause (fault_count self.old.saves) (fault_count self.new.saves)
@@ -88,12 +92,14 @@ impl<R: Files> Store for RealStore<R> {
         ensures load_faults { self.new.loads ≡ self.old.loads }
     {
         let copy = reserve_name(alloc, &mut self.failed_saves, name)?;
-        let beside = format!(in alloc; "{name}.new")?;
-        if replace_file(&self.files, name, beside.as_str(), bytes) {
-            return Ok(());
+        match save_beside(&self.files, alloc, name, bytes) {
+            Ok(()) => Ok(()),
+            Err(SaveFault::NoMemory) => Err(SaveFault::NoMemory),
+            Err(SaveFault::Failed) => {
+                note_name(&mut self.failed_saves, copy);
+                Err(SaveFault::Failed)
+            }
         }
-        note_name(&mut self.failed_saves, copy);
-        Err(SaveFault::Failed)
     }
 }
 
@@ -128,28 +134,62 @@ fn read_at_most<F: Read + Drop>(file: F, alloc: Global, limit: u64) -> Result<Ve
                 Err(LoadFault::TooLong)
             }
         }
-        Err(e) => {
-            if e.kind() == ErrorKind::OutOfMemory {
-                Err(LoadFault::NoMemory)
-            } else {
-                Err(LoadFault::Failed)
+        Err(e) => Err(fault_of(e.kind())),
+    }
+}
+
+/// What a read that fails so comes to: want of memory alone is not a fault of the file.
+fn fault_of(kind: ErrorKind) -> LoadFault
+    ensures no_memory { (result ≡ Fault.NoMemory) ↔ (kind ≡ Kind.OutOfMemory) }
+    ensures never_long { result ≢ Fault.TooLong }
+{
+    if kind == ErrorKind::OutOfMemory {
+        LoadFault::NoMemory
+    } else {
+        LoadFault::Failed
+    }
+}
+
+/// Makes the file of that name hold the bytes, by way of a file beside it whose name is free.
+fn save_beside<R: Files>(
+    files: &R,
+    alloc: Global,
+    name: &str,
+    bytes: &[u8],
+) -> Result<(), SaveFault> {
+    for number in 0..SIDE_NAMES {
+        let beside = format!(in alloc; "{name}.new{number}")?;
+        match create_free(files, beside.as_str()) {
+            Ok(file) => return replace_file(files, file, beside.as_str(), name, bytes),
+            Err(e) => {
+                if e.kind() != ErrorKind::AlreadyExists {
+                    return Err(SaveFault::Failed);
+                }
             }
         }
     }
+    Err(SaveFault::Failed)
 }
 
-/// Makes the file of that name hold the bytes, by way of the file beside it, and says whether it did.
-fn replace_file<R: Files>(files: &R, name: &str, beside: &str, bytes: &[u8]) -> bool {
-    if write_file(files, beside, bytes) && fs::rename(files, beside, name).is_ok() {
-        return true;
+/// A new file, where the name is free.
+fn create_free<R: Files>(files: &R, name: &str) -> io::Result<R::File> {
+    OpenOptions::new()
+        .write(true)
+        .create_new(true)
+        .open(files, name)
+}
+
+/// Puts the bytes into the file beside the name and renames it, or removes it again.
+fn replace_file<R: Files>(
+    files: &R,
+    mut file: R::File,
+    beside: &str,
+    name: &str,
+    bytes: &[u8],
+) -> Result<(), SaveFault> {
+    if file.write_all(bytes).is_ok() && fs::rename(files, beside, name).is_ok() {
+        return Ok(());
     }
     let _ = fs::remove_file(files, beside);
-    false
-}
-
-fn write_file<R: Files>(files: &R, name: &str, bytes: &[u8]) -> bool {
-    match fs::create(files, name) {
-        Ok(mut file) => file.write_all(bytes).is_ok(),
-        Err(_) => false,
-    }
+    Err(SaveFault::Failed)
 }

@@ -83,6 +83,43 @@ fn real_store(rt: HostRuntime) -> Result<(), Fail> {
 }
 
 #[test]
+fn a_real_save_keeps_other_files(rt: HostRuntime) -> Result<(), Fail> {
+    let alloc = rt.alloc();
+    let name = own_name(&rt, "kept")?;
+    let name = name.as_str();
+    let beside = format!(in alloc; "{name}.new0")?;
+    let beside = beside.as_str();
+    let mut store = RealStore::new(alloc, &rt);
+    // A file of the user's stands under the first name beside it.
+    fs::write(&rt, beside, b"own")?;
+    store.save(alloc, name, b"bytes")?;
+    assert_eq!(rt; fs::read(&rt, name)?.as_slice(), b"bytes".as_slice());
+    assert_eq!(rt; fs::read(&rt, beside)?.as_slice(), b"own".as_slice());
+    fs::remove_file(&rt, beside)?;
+    fs::remove_file(&rt, name)?;
+    Ok(())
+}
+
+#[test]
+fn a_real_save_that_fails_keeps_the_old_file(rt: HostRuntime) -> Result<(), Fail> {
+    let alloc = rt.alloc();
+    // A name of 255 bytes, behind which no name beside it is allowed.
+    let mut name = own_name(&rt, "")?;
+    let folder = env::temp_dir(&rt)?.into_string();
+    let length = name.len();
+    for _ in length..folder.len() + 256 {
+        name.push('x')?;
+    }
+    let name = name.as_str();
+    fs::write(&rt, name, b"old")?;
+    let mut store = RealStore::new(alloc, &rt);
+    assert_eq!(rt; store.save(alloc, name, b"new"), Err(SaveFault::Failed));
+    assert_eq!(rt; fs::read(&rt, name)?.as_slice(), b"old".as_slice());
+    fs::remove_file(&rt, name)?;
+    Ok(())
+}
+
+#[test]
 fn real_sink(rt: HostRuntime) -> Result<(), Fail> {
     let name = own_name(&rt, "sink")?;
     let name = name.as_str();

@@ -1,7 +1,7 @@
 use std::alloc::Global;
 use std::test::Fail;
 use tb_base::{MemSink, MemSource, MemStore, Store};
-use tb_twobit::twobit;
+use tb_twobit::{CompileRefusal, RefusalKind, compile, twobit};
 
 /// What a call gave.
 #[derive(Drop)]
@@ -250,6 +250,29 @@ fn faults_have_their_status(rt: HostRuntime) -> Result<(), Fail> {
     )?;
     assert_eq!(rt; put_fails.status, 4);
     assert_eq!(rt; put_fails.out.held(), b"a".as_slice());
+    // Each byte is one call of `put`, so that a third call does not come.
+    let two_puts = called(
+        rt.alloc(),
+        &go,
+        b"(write-char #\\a)(write-char #\\b)",
+        &[],
+        &[2],
+    )?;
+    assert_eq!(rt; two_puts.status, 0);
+    Ok(())
+}
+
+#[test]
+fn texts_are_compiled_or_refused(rt: HostRuntime) -> Result<(), Fail> {
+    assert_eq!(rt; compile(rt.alloc(), b"(write-char #\\a)").is_ok(), true);
+    let refused = match compile(rt.alloc(), b"(f . )") {
+        Err(CompileRefusal::Refused(refusal)) => {
+            refusal.kind == RefusalKind::Syntax && refusal.place.column == 6
+        }
+        Err(CompileRefusal::NoMemory) => false,
+        Ok(_) => false,
+    };
+    assert_eq!(rt; refused, true);
     Ok(())
 }
 

@@ -1,7 +1,7 @@
 -- Data that reading gives keep the rules of data, have no aliases, and nest as deep as reading goes at most.
 use Rattle.std.proofs.Common.{◌≡◌, ◌≤◌, ℕ, true, List, [], ◌∷◌, length, refl, arith}
 use Rattle.tb_sexp.specs.Bytes.{is_identifier}
-use Rattle.tb_sexp.specs.DatumRules.{KeepsRules, kept_nil, kept_truth, kept_fixnum, kept_character, kept_string, kept_name, kept_list, kept_dotted, kept_vector, AllKeepRules, none_kept, more_kept, nesting, greatest_nesting, IsUnaliased, AllUnaliased, IsPlainDatum}
+use Rattle.tb_sexp.specs.DatumRules.{IsLawful, lawful_nil, lawful_truth, lawful_fixnum, lawful_character, lawful_string, lawful_name, lawful_list, lawful_dotted, lawful_vector, AreLawful, none_lawful, more_lawful, nesting, greatest_nesting, IsUnaliased, AllUnaliased, IsPlainDatum}
 use Rattle.tb_sexp.specs.ReadData.{IsRead, read_nil, read_truth, read_fixnum, read_character, read_string, read_name, read_list, read_dotted, read_vector, AreRead, no_read, more_read}
 use Rattle.tb_sexp.specs.Tree.{Tree, Trees}
 
@@ -11,20 +11,20 @@ some_bytes [] e = cc
 some_bytes (b ∷ bs) e = omega arith
 
 mutual
-  rules : {n : ℕ} {d : Tree} → IsRead n d → KeepsRules d
-  rules read_nil = kept_nil
-  rules read_truth = kept_truth
-  rules (read_fixnum h) = kept_fixnum h
-  rules (read_character h) = kept_character
-  rules (read_string h few) = kept_string
-  rules (read_name {s = s} h) = kept_name (some_bytes s h.identifier) h.short
-  rules (read_list x) = kept_list (all_rules x)
-  rules (read_dotted x y e) = kept_dotted (all_rules x) (rules y) e
-  rules (read_vector x) = kept_vector (all_rules x)
+  rules : {n : ℕ} {d : Tree} → IsRead n d → IsLawful d
+  rules read_nil = lawful_nil
+  rules read_truth = lawful_truth
+  rules (read_fixnum h) = lawful_fixnum h
+  rules (read_character h) = lawful_character
+  rules (read_string h few) = lawful_string
+  rules (read_name {s = s} h) = lawful_name (some_bytes s h.identifier) h.short
+  rules (read_list x) = lawful_list (all_rules x)
+  rules (read_dotted x y e) = lawful_dotted (all_rules x) (rules y) e
+  rules (read_vector x) = lawful_vector (all_rules x)
 
-  all_rules : {n : ℕ} {ds : Trees} → AreRead n ds → AllKeepRules ds
-  all_rules no_read = none_kept
-  all_rules (more_read x xs) = more_kept (rules x) (all_rules xs)
+  all_rules : {n : ℕ} {ds : Trees} → AreRead n ds → AreLawful ds
+  all_rules no_read = none_lawful
+  all_rules (more_read x xs) = more_lawful (rules x) (all_rules xs)
 
 mutual
   as_written : {n : ℕ} {d : Tree} → IsRead n d → IsUnaliased d

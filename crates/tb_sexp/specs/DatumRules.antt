@@ -18,22 +18,22 @@ is_list (Vector ds) = false
 
 mutual
   -- a number is a fixnum, a name has 1 to 255 bytes, a list has an element, and its tail is neither a list nor empty
-  pub data KeepsRules : Tree → Type 0 where
-    kept_nil : {p : Place} → KeepsRules (At p Nil)
-    kept_truth : {p : Place} {b : Bool} → KeepsRules (At p (Truth b))
-    kept_fixnum : {p : Place} {z : ℤ} → is_fixnum z ≡ true → KeepsRules (At p (Fixnum z))
-    kept_character : {p : Place} {c : ℕ} → KeepsRules (At p (Character c))
-    kept_string : {p : Place} {s : List ℕ} → KeepsRules (At p (String s))
-    kept_name : {p : Place} {s : List ℕ} {alias : ℕ} → 1 ≤ length s → length s ≤ 255 → KeepsRules (At p (Name s alias))
-    kept_list : {p : Place} {d : Tree} {ds : Trees} → AllKeepRules (more d ds) → KeepsRules (At p (Proper (more d ds)))
-    kept_dotted : {p q : Place} {d : Tree} {ds : Trees} {s : Shape} → AllKeepRules (more d ds) → KeepsRules (At q s) → is_list s ≡ false →
-        KeepsRules (At p (Dotted (more d ds) (At q s)))
-    kept_vector : {p : Place} {ds : Trees} → AllKeepRules ds → KeepsRules (At p (Vector ds))
+  pub data IsLawful : Tree → Type 0 where
+    lawful_nil : {p : Place} → IsLawful (At p Nil)
+    lawful_truth : {p : Place} {b : Bool} → IsLawful (At p (Truth b))
+    lawful_fixnum : {p : Place} {z : ℤ} → is_fixnum z ≡ true → IsLawful (At p (Fixnum z))
+    lawful_character : {p : Place} {c : ℕ} → IsLawful (At p (Character c))
+    lawful_string : {p : Place} {s : List ℕ} → IsLawful (At p (String s))
+    lawful_name : {p : Place} {s : List ℕ} {alias : ℕ} → 1 ≤ length s → length s ≤ 255 → IsLawful (At p (Name s alias))
+    lawful_list : {p : Place} {d : Tree} {ds : Trees} → AreLawful (more d ds) → IsLawful (At p (Proper (more d ds)))
+    lawful_dotted : {p q : Place} {d : Tree} {ds : Trees} {s : Shape} → AreLawful (more d ds) → IsLawful (At q s) → is_list s ≡ false →
+        IsLawful (At p (Dotted (more d ds) (At q s)))
+    lawful_vector : {p : Place} {ds : Trees} → AreLawful ds → IsLawful (At p (Vector ds))
 
   -- the same of a list of data
-  pub data AllKeepRules : Trees → Type 0 where
-    none_kept : AllKeepRules none
-    more_kept : {d : Tree} {ds : Trees} → KeepsRules d → AllKeepRules ds → AllKeepRules (more d ds)
+  pub data AreLawful : Trees → Type 0 where
+    none_lawful : AreLawful none
+    more_lawful : {d : Tree} {ds : Trees} → IsLawful d → AreLawful ds → AreLawful (more d ds)
 
 -- how deep a datum nests: 1 for the empty list, one more than the deepest of its parts for a list or a vector, and 0
 -- for any other
@@ -78,6 +78,6 @@ abbrev mutual
 
 -- a datum as an expander may be given: it keeps the rules, its names are as written, and it nests so deep at most
 pub record IsPlainDatum (levels : ℕ) (d : Tree) : Type 0 where
-  pub rules : KeepsRules d
+  pub rules : IsLawful d
   pub unaliased : IsUnaliased d
   pub nests : nesting d ≤ levels
