@@ -1,6 +1,7 @@
 -- Reading one token: the token and how many bytes it takes, or what is wrong with it.
-use Rattle.std.specs.Prelude.{ℕ, ◌+◌, ◌==◌, nat_lt, Bool, true, false, cond, List, [], ◌∷◌, ◌++◌, ◌≡◌, length, take, map, codes, bytes_eq, Option, Some, None, Result, Ok, Err}
+use Rattle.std.specs.Prelude.{ℕ, ◌+◌, ◌==◌, ◌||◌, nat_lt, Bool, true, false, cond, List, [], ◌∷◌, ◌++◌, ◌≡◌, length, take, codes, bytes_eq, Option, Some, None, Result, Ok, Err}
 use Rattle.std.specs.Char.{to_ascii_lowercase}
+use Rattle.tb_prim.specs.Fixnums.{is_fixnum}
 use Rattle.tb_sexp.specs.declared.token.Token.{Token}
 use Rattle.tb_sexp.specs.declared.token.Token.TheVariants as token
 use Rattle.tb_sexp.specs.declared.token.Mark.TheVariants.{Quote, Quasiquote, Unquote, UnquoteSplicing}
@@ -8,8 +9,9 @@ use Rattle.tb_sexp.specs.declared.token.Fault.{Fault}
 use Rattle.tb_sexp.specs.declared.token.Fault.TheVariants.{Syntax, LongName, BigNumber, LongString, BadEscape, OpenString}
 use Rattle.tb_sexp.specs.declared.token.TokenRefusal.{TokenRefusal}
 use Rattle.tb_sexp.specs.declared.token.TokenRefusal.TheVariants as refusal
-use Rattle.tb_sexp.specs.Bytes.{is_identifier, run_length}
-use Rattle.tb_sexp.specs.Numbers.{is_number, is_negative, digits_of, value_of, signed, fits_fixnum}
+use Rattle.tb_sexp.specs.Bytes.{is_identifier, folded, escaped_of}
+use Rattle.tb_sexp.specs.calls.Scanning.{run_length}
+use Rattle.tb_sexp.specs.Numbers.{base_of, are_digits, value_of, signed}
 
 -- what a call returned is what reading gives, unless memory ran out
 abbrev pub Fails : {X : Type 0} → TokenRefusal → Result X Fault → Type 0
@@ -20,13 +22,22 @@ abbrev pub Gives : {X : Type 0} → Result X TokenRefusal → Result X Fault →
 Gives (Ok x) read = read ≡ Ok x
 Gives (Err e) read = Fails e read
 
--- letters are folded to lower case
-abbrev pub folded : List ℕ → List ℕ
-folded bs = map to_ascii_lowercase bs
+-- whether a sign (`+` is 43, and `-` 45) stands in front, and what stands behind it
+abbrev pub is_negative : List ℕ → Bool
+is_negative [] = false
+is_negative (b ∷ bs) = b == 45
+
+abbrev pub digits_of : List ℕ → List ℕ
+digits_of [] = []
+digits_of (b ∷ bs) = cond ((b == 43) || (b == 45)) bs (b ∷ bs)
+
+-- a number: an optional sign, and one or more digits
+abbrev pub is_number : ℕ → List ℕ → Bool
+is_number base bs = are_digits base (digits_of bs)
 
 -- a number that is a fixnum
 abbrev pub fixnum_of : Bool → ℕ → Result Token Fault
-fixnum_of negative n = cond (fits_fixnum negative n) (Ok (token.Fix (signed negative n))) (Err BigNumber)
+fixnum_of negative n = cond (is_fixnum (signed negative n)) (Ok (token.Fix (signed negative n))) (Err BigNumber)
 
 abbrev pub number_of : ℕ → List ℕ → Result Token Fault
 number_of base bs = cond (is_number base bs) (fixnum_of (is_negative bs) (value_of base (digits_of bs))) (Err Syntax)
@@ -38,11 +49,6 @@ name_of bs = cond (nat_lt 255 (length bs)) (Err LongName) (Ok (token.Name (folde
 -- a run of bytes without delimiters that is a dot, an identifier or a decimal number
 abbrev pub atom_of : List ℕ → Result Token Fault
 atom_of bs = cond (bytes_eq bs (codes ".")) (Ok token.Dot) (cond (is_identifier bs) (name_of bs) (number_of 10 bs))
-
--- the base of the digits after `#` and this letter
-abbrev pub base_of : ℕ → Option ℕ
-base_of b =
-    cond (b == 98) (Some 2) (cond (b == 111) (Some 8) (cond (b == 100) (Some 10) (cond (b == 120) (Some 16) None)))
 
 abbrev pub based_of : Option ℕ → List ℕ → Result Token Fault
 based_of None bs = Err Syntax
@@ -98,11 +104,6 @@ hash_at (b ∷ bs) =
 abbrev pub comma_at : List ℕ → Result (Token × ℕ) Fault
 comma_at [] = Ok (token.Mark Unquote, 1)
 comma_at (b ∷ bs) = cond (b == 64) (Ok (token.Mark UnquoteSplicing, 2)) (Ok (token.Mark Unquote, 1))
-
--- the character that stands for itself or for another behind a backslash
-abbrev pub escaped_of : ℕ → Option ℕ
-escaped_of b =
-    cond (b == 34) (Some 34) (cond (b == 92) (Some 92) (cond (b == 110) (Some 10) (cond (b == 116) (Some 9) None)))
 
 abbrev pub on_some : Option ℕ → Result (Token × ℕ) Fault → (ℕ → Result (Token × ℕ) Fault) → Result (Token × ℕ) Fault
 on_some None otherwise f = otherwise

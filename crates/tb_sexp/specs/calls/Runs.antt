@@ -5,11 +5,11 @@ use Rattle.tb_sexp.specs.declared.token.Token.{Token}
 use Rattle.tb_sexp.specs.declared.token.Fault.{Fault}
 use Rattle.tb_sexp.specs.declared.refusal.ReadRefusal.{ReadRefusal}
 use Rattle.tb_sexp.specs.declared.refusal.ReadRefusal.TheVariants.{Syntax, Unclosed, TooDeep, TooLong, TooBig, NoMemory}
-use Rattle.tb_sexp.specs.Bytes.{blanks}
-use Rattle.tb_sexp.specs.Frames.{State}
-use Rattle.tb_sexp.specs.Lexing.{token_at}
+use Rattle.tb_sexp.specs.calls.Scanning.{blanks}
+use Rattle.tb_sexp.specs.calls.Frames.{State}
+use Rattle.tb_sexp.specs.calls.Lexing.{token_at}
 use Rattle.tb_sexp.specs.Places.{text_start, behind_all}
-use Rattle.tb_sexp.specs.Reading.{Refuses, accept, failed, finish}
+use Rattle.tb_sexp.specs.calls.Reading.{Refuses, accept, failed, finish}
 use Rattle.tb_sexp.specs.Tree.{Tree}
 
 abbrev pub with_size : Result State ReadRefusal → ℕ → Result (State × ℕ) ReadRefusal

@@ -1,15 +1,15 @@
 -- What one token does to the data that are being read.
-use Rattle.std.specs.Prelude.{ℕ, ◌≡◌, ◌==◌, nat_lt, Bool, true, false, cond, List, [], ◌∷◌, length, take, Result, Ok, Err}
+use Rattle.std.specs.Prelude.{ℕ, ◌≡◌, ◌==◌, nat_lt, Bool, true, false, cond, List, [], ◌∷◌, length, Result, Ok, Err}
 use Rattle.tb_prim.specs.declared.place.Place.{Place}
 use Rattle.tb_sexp.specs.declared.token.Token.{Token}
 use Rattle.tb_sexp.specs.declared.token.Token.TheVariants as token
 use Rattle.tb_sexp.specs.declared.token.Fault.{Fault}
-use Rattle.tb_sexp.specs.declared.token.Fault.TheVariants as fault
 use Rattle.tb_sexp.specs.declared.refusal.ReadRefusal.{ReadRefusal}
 use Rattle.tb_sexp.specs.declared.refusal.ReadRefusal.TheVariants.{Syntax, Unclosed, TooDeep, TooLong, TooBig, NoMemory}
-use Rattle.tb_sexp.specs.Bytes.{blanks}
-use Rattle.tb_sexp.specs.Frames.{Frame, InMark, InList, AfterDot, AfterTail, InVector, State, list_of, dotted, give}
-use Rattle.tb_sexp.specs.Places.{behind_all}
+use Rattle.tb_sexp.specs.calls.Scanning.{blanks}
+use Rattle.tb_sexp.specs.calls.Frames.{Frame, InMark, InList, AfterDot, AfterTail, InVector, State, give}
+use Rattle.tb_sexp.specs.ListShapes.{list_of, dotted}
+use Rattle.tb_sexp.specs.Faults.{refusal_of}
 use Rattle.tb_sexp.specs.Tree.{Tree, At, Shape, Truth, Fixnum, Character, String, Name, Vector}
 use Rattle.tb_sexp.specs.View.{trees}
 
@@ -80,15 +80,6 @@ accept s p (token.Fix n) rest = datum s p (Fixnum n)
 accept s p (token.Char c) rest = datum s p (Character c)
 accept s p (token.Str text) rest = datum s p (String text)
 accept s p (token.Name text) rest = datum s p (Name text 0)
-
--- what is wrong at a place, where `rest` stands
-abbrev pub refusal_of : Fault → Place → List ℕ → ReadRefusal
-refusal_of fault.Syntax p rest = Syntax p
-refusal_of fault.LongName p rest = TooLong p
-refusal_of fault.BigNumber p rest = TooBig p
-refusal_of fault.LongString p rest = TooLong p
-refusal_of (fault.BadEscape n) p rest = Syntax (behind_all p (take n rest))
-refusal_of fault.OpenString p rest = Unclosed p
 
 -- no fault but Syntax counts where no datum can stand
 abbrev pub failed : State → Fault → Place → List ℕ → ReadRefusal
