@@ -316,3 +316,11 @@ sum_of-scaled factor size (x ∷ xs) = let h = sum_of-scaled factor size xs in o
 pub total-scaled : (factor : ℕ) (size : ℕ → ℕ) (g : Graph) → total (λ l. factor * size l) g ≡ factor * total size g
 unfolding total
 total-scaled factor size g = sum_of-scaled factor size (kept (reaches g) (below g.count))
+
+-- the nodes that the test lets pass are exactly those that can be reached, each once
+pub reachable_kept : (g : Graph) → IsClosed g → ListsReachable g (kept (reaches g) (below g.count))
+reachable_kept g closed = record {
+  apart = apart_kept (reaches g) (below g.count) (apart_below g.count);
+  sound = λ l i. let h = kept_in (reaches g) (below g.count) l i in (in_below g.count l h.0, reaches-true g l h.1);
+  full = λ l lt r. in_kept (reaches g) (below g.count) l (below_in g.count l lt) (Reaches-reaches g closed l r);
+}

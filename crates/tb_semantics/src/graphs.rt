@@ -1,7 +1,7 @@
 //! Laws of graphs: the size of what can be reached.
 
 ghost use Rattle.std.specs.Prelude.{◌≡◌, ◌≤◌, ℕ, List};
-ghost use Rattle.tb_semantics.specs.Graph.{Graph, IsClosed, IsIn, ListsReachable, Reaches, below, sum_of, total, with_roots};
+ghost use Rattle.tb_semantics.specs.Graph.{Graph, IsClosed, IsIn, ListsReachable, Reaches, below, kept, reaches, sum_of, total, with_roots};
 
 /// The size of all that can be reached in a graph is the sum over any list of exactly those nodes, each once.
 pub fn total_is_any_sum()
@@ -17,4 +17,9 @@ pub fn total_is_within()
 pub fn total_grows()
     ensures law { (size : ℕ → ℕ) (g : Graph) (rs : List ℕ) → IsClosed g →
         ((l : ℕ) → IsIn l g.roots → Reaches (with_roots g rs) l) → total size g ≤ total size (with_roots g rs) }
+{}
+
+/// The nodes that the test lets pass are exactly those that can be reached, each once.
+pub fn reachable_are_kept()
+    ensures law { (g : Graph) → IsClosed g → ListsReachable g (kept (reaches g) (below g.count)) }
 {}
