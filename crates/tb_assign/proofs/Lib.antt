@@ -4,3 +4,5 @@ pub mod Grow
 pub mod Envs
 pub mod Match
 pub mod Shape
+pub mod Base
+pub mod Simple
