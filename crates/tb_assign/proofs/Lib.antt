@@ -6,3 +6,5 @@ pub mod Match
 pub mod Shape
 pub mod Base
 pub mod Simple
+pub mod Lines
+pub mod Nodes
