@@ -8,3 +8,4 @@ pub mod Base
 pub mod Simple
 pub mod Lines
 pub mod Nodes
+pub mod Moves
