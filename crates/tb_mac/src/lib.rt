@@ -1,0 +1,14 @@
+//! The MAC machine: its words, its instructions, its code with the rules that it keeps, and what its steps do.
+#![tactic(auto)]
+
+mod code;
+pub mod examples;
+mod immediate;
+mod word;
+
+pub use code::{
+    BitRow, EntryRow, IndexRow, Instr, InstrRow, LambdaEntry, LiveMap, MacCode, MapRow, OrderEntry,
+    OrderRow, Parts, PlaceEntry, PlaceRow,
+};
+pub use immediate::{immediate_bits, immediate_word};
+pub use word::{Word, is_false, same_word};
