@@ -6,6 +6,7 @@ use Rattle.tb_prim.specs.declared.event.Cause.{Cause}
 use Rattle.tb_prim.specs.declared.primitive.Primitive.{Primitive}
 use Rattle.tb_prim.specs.declared.primitive.Primitive.TheVariants.{Cons, Car, Cdr, SetCar, SetCdr, IsPair, IsNull, Not, IsBoolean, IsSymbol, IsChar, IsString, IsVector, IsProcedure, IsInteger, IsEof, Eq, Add, Sub, Mul, Quotient, Remainder, Modulo, NumEq, Less, Greater, LessEq, GreaterEq, CharToInt, IntToChar, MakeVector, VectorRef, VectorSet, VectorLength, MakeString, StringRef, StringSet, StringLength, SymbolLength, SymbolRef, ReadChar, PeekChar, WriteChar, Unspecified as UnspecifiedPrim}
 use Rattle.tb_mac.specs.declared.word.Word.{Word}
+use Rattle.tb_mac.specs.declared.word.Placed.{Placed}
 use Rattle.tb_mac.specs.declared.word.Word.TheVariants.{Fix, Special, Char, Header, Pointer, Code, Raw}
 use Rattle.tb_mac.specs.Words.{on_some, false_word, true_word, unspecified, is_false, same_int, same_word}
 use Rattle.tb_mac.specs.Table.{is_fixnum}
@@ -30,11 +31,6 @@ pub data Effect : Type 0 where
 
 abbrev pub wrong_type : Effect
 wrong_type = Fails Cause.WrongType
-
--- where an object stands that has a header, and its length
-pub record Placed : Type 0 where
-  pub at : ℕ
-  pub size : ℕ
 
 -- the pair to which a word points
 abbrev pub pair_at : Word → Option ℕ

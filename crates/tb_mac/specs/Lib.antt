@@ -9,3 +9,4 @@ pub mod MacStep
 pub mod MacEvents
 pub mod Bounds
 pub mod Examples
+pub mod CodeOf

@@ -6,6 +6,7 @@ use Rattle.tb_prim.specs.declared.event.Event.{Event}
 use Rattle.tb_prim.specs.declared.event.Stop.{Stop}
 use Rattle.tb_prim.specs.declared.event.Taken.{Taken}
 use Rattle.tb_mac.specs.declared.word.Word.{Word}
+use Rattle.tb_mac.specs.declared.word.Placed.{Placed}
 use Rattle.tb_mac.specs.declared.word.Word.TheVariants.{Fix, Special, Char, Header, Pointer, Code, Raw}
 use Rattle.tb_mac.specs.declared.code.Instr.{Instr}
 use Rattle.tb_mac.specs.declared.code.Instr.TheVariants.{Proc, Args, ArgsGe, Save, SetRtn, Load, Store, Pop, Return, Invoke, Jump, Brf, Imm, Stat, Move, GlobalGet, GlobalSet, GlobalDef, Cell, CellGet, CellSet, Clo, Capt, CaptSet, Apply, End, Op0, Op1, Op2, Op3}
@@ -15,7 +16,7 @@ use Rattle.tb_mac.specs.Words.{on_some, imm_word, zero_word, empty_list, unspeci
 use Rattle.tb_mac.specs.Table.{primitive_at}
 use Rattle.tb_mac.specs.Objects.{pair_tag, vector_tag, procedure_tag, cell_kind, cell_words, new_procedure}
 use Rattle.tb_mac.specs.Layout.{addresses}
-use Rattle.tb_mac.specs.Effects.{Effect, Gives, Makes, Changes, Puts, Takes, Peeks, Fails, NoNextStep, Heap, Placed, pair_at, object_at, procedure_at, numbered, effect_0, effect_1, effect_2, effect_3}
+use Rattle.tb_mac.specs.Effects.{Effect, Gives, Makes, Changes, Puts, Takes, Peeks, Fails, NoNextStep, Heap, pair_at, object_at, procedure_at, numbered, effect_0, effect_1, effect_2, effect_3}
 
 -- a state: the number of the next instruction, the 17 registers, the words of the heap and the stack, the two
 -- word numbers between which no word is in use, and what is known of the input ahead: nothing, one byte that

@@ -3,12 +3,15 @@
 
 mod code;
 pub mod examples;
+
 mod immediate;
+mod lookup;
 mod word;
 
 pub use code::{
     BitRow, EntryRow, IndexRow, Instr, InstrRow, LambdaEntry, LiveMap, MacCode, MapRow, OrderEntry,
     OrderRow, Parts, PlaceEntry, PlaceRow,
 };
+pub use lookup::{fetch, place_of};
 pub use immediate::{immediate_bits, immediate_word};
-pub use word::{Word, is_false, same_word};
+pub use word::{Placed, Word, is_false, same_word};

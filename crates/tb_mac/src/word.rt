@@ -19,6 +19,13 @@ pub enum Word {
 
 const _: () = prove!(size_of::<Word>() == 8);
 
+/// Where an object stands that has a header, and its length: elements, bytes or captured words.
+#[derive(Clone, Copy, Debug, PartialEq, Eq)]
+pub struct Placed {
+    pub at: u32,
+    pub size: u32,
+}
+
 /// The word is false, which alone counts as false (R5RS 6.3.1).
 pub fn is_false(word: Word) -> bool
     ensures { result ≡ is_false word }
