@@ -106,9 +106,12 @@ top_size m = on_some (size_in (slice_get m.memory (m.stack_pointer + 1))) None (
 abbrev pub with_frame : Mac → (ℕ → Outcome) → Outcome
 with_frame m k = on_some (top_size m) (stuck m) k
 
--- something done with slot x of the frame on top, by its word number
+-- the word number of slot x of the frame on top, where that has such a slot
+abbrev pub slot_at : Mac → ℕ → Option ℕ
+slot_at m x = on_some (top_size m) None (λ n. cond (nat_lt x n) (Some (m.stack_pointer + 2 + x)) None)
+
 abbrev pub with_slot : Mac → ℕ → (ℕ → Outcome) → Outcome
-with_slot m x k = with_frame m (λ n. cond (nat_lt x n) (k (m.stack_pointer + 2 + x)) (stuck m))
+with_slot m x k = on_some (slot_at m x) (stuck m) k
 
 -- the instruction of a code place
 abbrev pub place_in : Option Word → Option ℕ
@@ -259,9 +262,13 @@ cell_get c a b m = with_cell m b (λ at w. cond (is_undefined w) (fail c m Cause
 abbrev pub cell_set : ℕ → ℕ → Mac → Outcome
 cell_set a b m = with_cell m a (λ at w. with_register m b (λ u. Goes (set_word at u m)))
 
+-- where captured word x of a procedure stands
+abbrev pub captured_at : Heap → ℕ → Word → Option ℕ
+captured_at heap x u = on_some (procedure_at heap u) None (λ o. cond (nat_lt x o.size) (Some (o.at + 2 + x)) None)
+
 -- captured word x of the procedure in a register
 abbrev pub with_captured : Mac → ℕ → ℕ → (ℕ → Word → Outcome) → Outcome
-with_captured m b x k = with_register m b (λ u. on_some (procedure_at (heap_of m) u) (stuck m) (λ o. cond (nat_lt x o.size) (on_some (heap_of m (o.at + 2 + x)) (stuck m) (k (o.at + 2 + x))) (stuck m)))
+with_captured m b x k = with_register m b (λ u. on_some (captured_at (heap_of m) x u) (stuck m) (λ at. on_some (heap_of m at) (stuck m) (k at)))
 
 abbrev pub captured : ℕ → ℕ → ℕ → Mac → Outcome
 captured a b x m = with_captured m b x (λ at w. Goes (set_register a w m))
