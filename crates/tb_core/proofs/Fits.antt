@@ -1,26 +1,27 @@
 -- What the primitives do with as many operands as they take: each effect can be carried out, and changes an
--- item into one of its kind and size.
+-- object into one of its kind and size.
 use Rattle.std.specs.Prelude.{◌+ℤ◌, ◌-ℤ◌, ◌*ℤ◌, int_div}
 use Rattle.std.proofs.Common.{◌≡◌, ◌≤◌, refl, sym, ap, ◌∙◌, ℕ, suc, arith, ℤ, pos, negsuc, Bool, true, false, cond, List, [], ◌∷◌, length, Option, Some, None, slice_get, nat_lt, length-set}
 use Rattle.tb_prim.specs.declared.event.Cause.{Cause}
 use Rattle.tb_prim.specs.declared.primitive.Primitive.{Primitive}
 use Rattle.tb_prim.specs.declared.primitive.Primitive.TheVariants.{Cons, Car, Cdr, SetCar, SetCdr, IsPair, IsNull, Not, IsBoolean, IsSymbol, IsChar, IsString, IsVector, IsProcedure, IsInteger, IsEof, Eq, Add, Sub, Mul, Quotient, Remainder, Modulo, NumEq, Less, Greater, LessEq, GreaterEq, CharToInt, IntToChar, MakeVector, VectorRef, VectorSet, VectorLength, MakeString, StringRef, StringSet, StringLength, SymbolLength, SymbolRef, ReadChar, PeekChar, WriteChar, Unspecified as UnspecifiedPrim}
 use Rattle.tb_prim.specs.Primitives.{arity_of}
-use Rattle.tb_core.specs.Store.{Value, Fix, Char, At, Env, Item, Pair, Vec, Str, Sym, Clo}
-use Rattle.tb_core.specs.Effects.{Effect, Gives, Makes, Changes, Puts, Takes, Peeks, Fails, is_fixnum, with_fix, with_char, at_item, with_item, if_pair, if_vector, if_string, if_symbol, with_index, gives_at, gives_fix, with_length, is_zero, effect_0, effect_1, effect_2, effect_3, effect_of}
-use Rattle.tb_core.proofs.Stores.{SameKind, pair_kind, vec_kind, str_kind}
+use Rattle.tb_prim.specs.Fixnums.{is_fixnum}
+use Rattle.tb_core.specs.Store.{Value, Fix, Char, At, Object, Pair, Vec, Str, Sym, Content, Holds}
+use Rattle.tb_core.specs.Effects.{Effect, Gives, Makes, Changes, Puts, Takes, Peeks, Fails, with_fix, with_char, if_object, with_object, if_pair, if_vector, if_string, if_symbol, with_index, gives_at, gives_fix, with_length, is_zero, effect_0, effect_1, effect_2, effect_3, effect_of}
+use Rattle.tb_core.proofs.Stores.{SameObject, pair_kind, vec_kind, str_kind}
 
 -- an effect that can be carried out in the store
-pub data Fit (st : List Item) : Effect → Type 0 where
+pub data Fit (st : ℕ → Content) : Effect → Type 0 where
   gives : {v : Value} → Fit st (Gives v)
-  makes : {i : Item} → ((m : ℕ) (r : Env) → i ≡ Clo m r → ⊥) → Fit st (Makes i)
-  changes : {l : ℕ} {i : Item} (old : Item) → slice_get st l ≡ Some old → SameKind old i → Fit st (Changes l i)
+  makes : {o : Object} → Fit st (Makes o)
+  changes : {l : ℕ} {o : Object} (old : Object) → st l ≡ Holds old → SameObject old o → Fit st (Changes l o)
   puts : {c : ℕ} → Fit st (Puts c)
   takes : Fit st Takes
   peeks : Fit st Peeks
   fails : {cause : Cause} → Fit st (Fails cause)
 
-module _ (st : List Item) where
+module _ (st : ℕ → Content) where
   fit_fix : (v : Value) (k : ℤ → Effect) → ((n : ℤ) → Fit st (k n)) → Fit st (with_fix v k)
   fit_fix (Fix n) k h = h n
   fit_fix _ k h = fails
@@ -29,27 +30,27 @@ module _ (st : List Item) where
   fit_char (Char n) k h = h n
   fit_char _ k h = fails
 
-  fit_at : (o : Option Item) (k : Item → Effect) → ((i : Item) → o ≡ Some i → Fit st (k i)) → Fit st (at_item o k)
-  fit_at None k h = fails
-  fit_at (Some i) k h = h i refl
+  fit_seen : (o : Content) (k : Object → Effect) → ((i : Object) → o ≡ Holds i → Fit st (k i)) → Fit st (if_object o k)
+  fit_seen (Holds i) k h = h i refl
+  fit_seen _ k h = fails
 
-  fit_item : (v : Value) (k : ℕ → Item → Effect) → ((l : ℕ) (i : Item) → slice_get st l ≡ Some i → Fit st (k l i)) → Fit st (with_item st v k)
-  fit_item (At l) k h = fit_at (slice_get st l) (k l) (h l)
-  fit_item _ k h = fails
+  fit_object : (v : Value) (k : ℕ → Object → Effect) → ((l : ℕ) (i : Object) → st l ≡ Holds i → Fit st (k l i)) → Fit st (with_object st v k)
+  fit_object (At l) k h = fit_seen (st l) (k l) (h l)
+  fit_object _ k h = fails
 
-  fit_pair : (i : Item) (k : Value → Value → Effect) → ((x y : Value) → i ≡ Pair x y → Fit st (k x y)) → Fit st (if_pair i k)
+  fit_pair : (i : Object) (k : Value → Value → Effect) → ((x y : Value) → i ≡ Pair x y → Fit st (k x y)) → Fit st (if_pair i k)
   fit_pair (Pair x y) k h = h x y refl
   fit_pair _ k h = fails
 
-  fit_vector : (i : Item) (k : List Value → Effect) → ((vs : List Value) → i ≡ Vec vs → Fit st (k vs)) → Fit st (if_vector i k)
+  fit_vector : (i : Object) (k : List Value → Effect) → ((vs : List Value) → i ≡ Vec vs → Fit st (k vs)) → Fit st (if_vector i k)
   fit_vector (Vec vs) k h = h vs refl
   fit_vector _ k h = fails
 
-  fit_string : (i : Item) (k : List ℕ → Effect) → ((cs : List ℕ) → i ≡ Str cs → Fit st (k cs)) → Fit st (if_string i k)
+  fit_string : (i : Object) (k : List ℕ → Effect) → ((cs : List ℕ) → i ≡ Str cs → Fit st (k cs)) → Fit st (if_string i k)
   fit_string (Str cs) k h = h cs refl
   fit_string _ k h = fails
 
-  fit_symbol : (i : Item) (k : List ℕ → Effect) → ((cs : List ℕ) → i ≡ Sym cs → Fit st (k cs)) → Fit st (if_symbol i k)
+  fit_symbol : (i : Object) (k : List ℕ → Effect) → ((cs : List ℕ) → i ≡ Sym cs → Fit st (k cs)) → Fit st (if_symbol i k)
   fit_symbol (Sym cs) k h = h cs refl
   fit_symbol _ k h = fails
 
@@ -78,8 +79,8 @@ module _ (st : List Item) where
   fit_0 _ h = absurd (omega (arith, h))
 
   fit_1 : (q : Primitive) (a : Value) → 1 ≡ arity_of q → Fit st (effect_1 st q a)
-  fit_1 Car a h = fit_item a _ (λ l i e. fit_pair i _ (λ x y f. gives))
-  fit_1 Cdr a h = fit_item a _ (λ l i e. fit_pair i _ (λ x y f. gives))
+  fit_1 Car a h = fit_object a _ (λ l i e. fit_pair i _ (λ x y f. gives))
+  fit_1 Cdr a h = fit_object a _ (λ l i e. fit_pair i _ (λ x y f. gives))
   fit_1 IsPair a h = gives
   fit_1 IsNull a h = gives
   fit_1 Not a h = gives
@@ -93,18 +94,18 @@ module _ (st : List Item) where
   fit_1 IsEof a h = gives
   fit_1 CharToInt a h = fit_char a _ (λ c. gives)
   fit_1 IntToChar a h = fit_fix a _ (λ n. fit_index n _ _ (λ c. gives))
-  fit_1 MakeVector a h = fit_length a _ (λ n. makes (λ m r e. cc))
-  fit_1 VectorLength a h = fit_item a _ (λ l i e. fit_vector i _ (λ vs f. gives))
-  fit_1 MakeString a h = fit_length a _ (λ n. makes (λ m r e. cc))
-  fit_1 StringLength a h = fit_item a _ (λ l i e. fit_string i _ (λ cs f. gives))
-  fit_1 SymbolLength a h = fit_item a _ (λ l i e. fit_symbol i _ (λ cs f. gives))
+  fit_1 MakeVector a h = fit_length a _ (λ n. makes)
+  fit_1 VectorLength a h = fit_object a _ (λ l i e. fit_vector i _ (λ vs f. gives))
+  fit_1 MakeString a h = fit_length a _ (λ n. makes)
+  fit_1 StringLength a h = fit_object a _ (λ l i e. fit_string i _ (λ cs f. gives))
+  fit_1 SymbolLength a h = fit_object a _ (λ l i e. fit_symbol i _ (λ cs f. gives))
   fit_1 WriteChar a h = fit_char a _ (λ c. puts)
   fit_1 _ a h = absurd (omega (arith, h))
 
   fit_2 : (q : Primitive) (a b : Value) → 2 ≡ arity_of q → Fit st (effect_2 st q a b)
-  fit_2 Cons a b h = makes (λ m r e. cc)
-  fit_2 SetCar a b h = fit_item a _ (λ l i e. fit_pair i _ (λ x y f. changes (Pair x y) (e ∙ ap Some f) (pair_kind x y b y)))
-  fit_2 SetCdr a b h = fit_item a _ (λ l i e. fit_pair i _ (λ x y f. changes (Pair x y) (e ∙ ap Some f) (pair_kind x y x b)))
+  fit_2 Cons a b h = makes
+  fit_2 SetCar a b h = fit_object a _ (λ l i e. fit_pair i _ (λ x y f. changes (Pair x y) (e ∙ ap Holds f) (pair_kind x y b y)))
+  fit_2 SetCdr a b h = fit_object a _ (λ l i e. fit_pair i _ (λ x y f. changes (Pair x y) (e ∙ ap Holds f) (pair_kind x y x b)))
   fit_2 Eq a b h = gives
   fit_2 Add a b h = fit_fix a _ (λ m. fit_fix b _ (λ n. fit_gives_fix (m +ℤ n)))
   fit_2 Sub a b h = fit_fix a _ (λ m. fit_fix b _ (λ n. fit_gives_fix (m -ℤ n)))
@@ -117,14 +118,14 @@ module _ (st : List Item) where
   fit_2 Greater a b h = fit_fix a _ (λ m. fit_fix b _ (λ n. gives))
   fit_2 LessEq a b h = fit_fix a _ (λ m. fit_fix b _ (λ n. gives))
   fit_2 GreaterEq a b h = fit_fix a _ (λ m. fit_fix b _ (λ n. gives))
-  fit_2 VectorRef a b h = fit_item a _ (λ l i e. fit_vector i _ (λ vs f. fit_fix b _ (λ n. fit_index n _ _ (λ k. fit_gives_at (slice_get vs k) _))))
-  fit_2 StringRef a b h = fit_item a _ (λ l i e. fit_string i _ (λ cs f. fit_fix b _ (λ n. fit_index n _ _ (λ k. fit_gives_at (slice_get cs k) _))))
-  fit_2 SymbolRef a b h = fit_item a _ (λ l i e. fit_symbol i _ (λ cs f. fit_fix b _ (λ n. fit_index n _ _ (λ k. fit_gives_at (slice_get cs k) _))))
+  fit_2 VectorRef a b h = fit_object a _ (λ l i e. fit_vector i _ (λ vs f. fit_fix b _ (λ n. fit_index n _ _ (λ k. fit_gives_at (slice_get vs k) _))))
+  fit_2 StringRef a b h = fit_object a _ (λ l i e. fit_string i _ (λ cs f. fit_fix b _ (λ n. fit_index n _ _ (λ k. fit_gives_at (slice_get cs k) _))))
+  fit_2 SymbolRef a b h = fit_object a _ (λ l i e. fit_symbol i _ (λ cs f. fit_fix b _ (λ n. fit_index n _ _ (λ k. fit_gives_at (slice_get cs k) _))))
   fit_2 _ a b h = absurd (omega (arith, h))
 
   fit_3 : (q : Primitive) (a b c : Value) → 3 ≡ arity_of q → Fit st (effect_3 st q a b c)
-  fit_3 VectorSet a b c h = fit_item a _ (λ l i e. fit_vector i _ (λ vs f. fit_fix b _ (λ n. fit_index n _ _ (λ k. changes (Vec vs) (e ∙ ap Some f) (vec_kind vs _ (sym (length-set vs k c)))))))
-  fit_3 StringSet a b c h = fit_item a _ (λ l i e. fit_string i _ (λ cs f. fit_fix b _ (λ n. fit_char c _ (λ ch. fit_index n _ _ (λ k. changes (Str cs) (e ∙ ap Some f) (str_kind cs _ (sym (length-set cs k ch))))))))
+  fit_3 VectorSet a b c h = fit_object a _ (λ l i e. fit_vector i _ (λ vs f. fit_fix b _ (λ n. fit_index n _ _ (λ k. changes (Vec vs) (e ∙ ap Holds f) (vec_kind vs _ (sym (length-set vs k c)))))))
+  fit_3 StringSet a b c h = fit_object a _ (λ l i e. fit_string i _ (λ cs f. fit_fix b _ (λ n. fit_char c _ (λ ch. fit_index n _ _ (λ k. changes (Str cs) (e ∙ ap Holds f) (str_kind cs _ (sym (length-set cs k ch))))))))
   fit_3 _ a b c h = absurd (omega (arith, h))
 
   at_most_three : (q : Primitive) → arity_of q ≤ 3

@@ -7,11 +7,11 @@ use Rattle.tb_core.specs.OperandOrder.{order_of}
 use Rattle.tb_core.specs.FreeVariables.{free_all, inner_free}
 use Rattle.tb_core.specs.Width.{nodes_all}
 use Rattle.tb_core.specs.Reference.{Context, context_of, reference}
-use Rattle.tb_macm.specs.declared.code.Instr.{Instr}
-use Rattle.tb_macm.specs.declared.code.PlaceEntry.{PlaceEntry}
+use Rattle.tb_small_mac.specs.declared.code.Instr.{Instr}
+use Rattle.tb_small_mac.specs.declared.code.PlaceEntry.{PlaceEntry}
 use Rattle.tb_small.specs.Generate.{program_of}
 use Rattle.tb_small.specs.Built.{BuiltAll}
-use Rattle.tb_macm.specs.MacEvents.{MacState, Halted, mac_machine}
+use Rattle.tb_small_mac.specs.MacEvents.{MacState, Halted, mac_machine}
 
 -- a run that has come to its end, or failed
 abbrev pub IsOver : MacState → Type 0
