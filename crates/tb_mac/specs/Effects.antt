@@ -9,7 +9,7 @@ use Rattle.tb_mac.specs.declared.word.Word.{Word}
 use Rattle.tb_mac.specs.declared.word.Placed.{Placed}
 use Rattle.tb_mac.specs.declared.word.Word.TheVariants.{Fix, Special, Char, Header, Pointer, Code, Raw}
 use Rattle.tb_mac.specs.Words.{on_some, false_word, true_word, unspecified, is_false, same_int, same_word}
-use Rattle.tb_mac.specs.Table.{is_fixnum}
+use Rattle.tb_prim.specs.Fixnums.{is_fixnum}
 use Rattle.tb_mac.specs.Objects.{pair_tag, vector_tag, string_tag, procedure_tag, vector_kind, string_kind, symbol_kind, procedure_kind, pair_words, new_vector, new_string}
 
 -- the words of the heap, by their numbers

@@ -1,5 +1,4 @@
 pub mod Words
-pub mod Table
 pub mod Objects
 pub mod Layout
 pub mod Rules

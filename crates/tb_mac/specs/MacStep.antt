@@ -13,7 +13,7 @@ use Rattle.tb_mac.specs.declared.code.Instr.TheVariants.{Proc, Args, ArgsGe, Sav
 use Rattle.tb_mac.specs.declared.code.PlaceEntry.{PlaceEntry}
 use Rattle.tb_mac.specs.Assembled.{Assembled}
 use Rattle.tb_mac.specs.Words.{on_some, imm_word, zero_word, empty_list, unspecified, end_object, is_false, is_undefined, same_word}
-use Rattle.tb_mac.specs.Table.{primitive_at}
+use Rattle.tb_prim.specs.Primitives.{primitive_at}
 use Rattle.tb_mac.specs.Objects.{pair_tag, vector_tag, procedure_tag, cell_kind, cell_words, new_procedure}
 use Rattle.tb_mac.specs.Layout.{addresses}
 use Rattle.tb_mac.specs.Effects.{Effect, Gives, Makes, Changes, Puts, Takes, Peeks, Fails, NoNextStep, Heap, pair_at, object_at, procedure_at, numbered, effect_0, effect_1, effect_2, effect_3}

@@ -12,7 +12,8 @@ use Rattle.tb_mac.specs.declared.code.OrderEntry.{OrderEntry}
 use Rattle.tb_mac.specs.declared.code.PlaceEntry.{PlaceEntry}
 use Rattle.tb_mac.specs.declared.code.Parts.{Parts}
 use Rattle.tb_mac.specs.Words.{on_some, imm_word}
-use Rattle.tb_mac.specs.Table.{is_fixnum, arity_at, can_fail}
+use Rattle.tb_prim.specs.Fixnums.{is_fixnum}
+use Rattle.tb_prim.specs.Primitives.{primitive_at, arity_at, can_fail}
 use Rattle.tb_mac.specs.Layout.{static_tag, addresses_from}
 
 -- the tag of the static object with this number
@@ -92,6 +93,10 @@ InstrOk parts count (Op1 a b x) = IsRegister a × IsRegister b × (arity_at x �
 InstrOk parts count (Op2 a b c x) = IsRegister a × IsRegister b × IsRegister c × (arity_at x ≡ Some 2)
 InstrOk parts count (Op3 a b c x) = IsRegister a × IsRegister b × IsRegister c × (arity_at x ≡ Some 3)
 
+-- the primitive with this number can fail
+abbrev pub number_can_fail : ℕ → Bool
+number_can_fail x = on_some (primitive_at x) false can_fail
+
 -- the instruction can fail, so that it has a place
 abbrev pub instr_can_fail : Instr → Bool
 instr_can_fail (Args a) = true
@@ -101,10 +106,10 @@ instr_can_fail (GlobalGet a x) = true
 instr_can_fail (GlobalSet a x) = true
 instr_can_fail (CellGet a b) = true
 instr_can_fail Apply = true
-instr_can_fail (Op0 a x) = can_fail x
-instr_can_fail (Op1 a b x) = can_fail x
-instr_can_fail (Op2 a b c x) = can_fail x
-instr_can_fail (Op3 a b c x) = can_fail x
+instr_can_fail (Op0 a x) = number_can_fail x
+instr_can_fail (Op1 a b x) = number_can_fail x
+instr_can_fail (Op2 a b c x) = number_can_fail x
+instr_can_fail (Op3 a b c x) = number_can_fail x
 instr_can_fail _ = false
 
 -- a map has a bit for each of the 17 registers, and at most 1,000 slots

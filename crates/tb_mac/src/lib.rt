@@ -6,6 +6,7 @@ pub mod examples;
 
 mod immediate;
 mod lookup;
+mod numbers;
 mod word;
 
 pub use code::{
@@ -14,4 +15,5 @@ pub use code::{
 };
 pub use lookup::{fetch, place_of};
 pub use immediate::{immediate_bits, immediate_word};
+pub use numbers::primitive_at;
 pub use word::{Placed, Word, is_false, same_word};
