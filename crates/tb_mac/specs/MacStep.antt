@@ -212,6 +212,10 @@ abbrev pub walked : Heap → ℕ → Word → Walked
 walked heap zero w = on_some (pair_at w) (ends_list w) (λ a. NoList Cause.TooMany)
 walked heap (suc n) w = on_some (pair_at w) (ends_list w) (λ a. on_some (heap a) NoWord (λ u. on_some (heap (a + 1)) NoWord (λ v. with_element u (walked heap n v))))
 
+-- the walk of a list of at most twelve elements
+unfoldable pub walk_list : Heap → Word → Walked
+walk_list heap w = walked heap 12 w
+
 abbrev pub apply_to : Assembled → Placed → Mac → Walked → Outcome
 apply_to c o m (Elements us) = enter o m (set_operands us m)
 apply_to c o m (NoList cause) = fail c m cause
@@ -219,7 +223,7 @@ apply_to c o m NoWord = stuck m
 
 -- the procedure in register 0 is entered with the elements of the list in register 1, at most twelve
 abbrev pub apply : Assembled → Mac → Outcome
-apply c m = with_procedure c m (λ o. with_register m 1 (λ l. apply_to c o m (walked (heap_of m) 12 l)))
+apply c m = with_procedure c m (λ o. with_register m 1 (λ l. apply_to c o m (walk_list (heap_of m) l)))
 
 -- the machine goes on at x where the register is false
 abbrev pub branch : ℕ → ℕ → Mac → Outcome
@@ -347,25 +351,40 @@ abbrev pub taken_word : Taken → Word
 taken_word (Taken.Byte b) = Char b
 taken_word Taken.End = end_object
 
--- the next byte of the input is taken, or its end; after the end was met, every later answer is the end
-abbrev pub take_input : ℕ → Mac → Option Taken → List ℕ → Stepped
-take_input a m (Some (Taken.Byte b)) input = Went (Some (Event.Took (Taken.Byte b))) (set_register a (Char b) (record m { ahead = None })) input
-take_input a m (Some Taken.End) input = Went (Some (Event.Took Taken.End)) (set_register a end_object m) input
-take_input a m None [] = Went (Some (Event.Took Taken.End)) (set_register a end_object (record m { ahead = Some Taken.End })) []
-take_input a m None (b ∷ input) = Went (Some (Event.Took (Taken.Byte b))) (set_register a (Char b) m) input
+-- what comes next: what is ahead, else the next byte of the input, or its end
+abbrev pub next_taken : Option Taken → List ℕ → Taken
+next_taken (Some t) input = t
+next_taken None [] = Taken.End
+next_taken None (b ∷ input) = Taken.Byte b
+
+-- the input behind that
+abbrev pub rest_after : Option Taken → List ℕ → List ℕ
+rest_after (Some t) input = input
+rest_after None [] = []
+rest_after None (b ∷ input) = input
+
+-- what stays ahead when this was taken: after the end was met, every later answer is the end
+abbrev pub kept_ahead : Taken → Option Taken
+kept_ahead (Taken.Byte b) = None
+kept_ahead Taken.End = Some Taken.End
+
+-- a register gets what was taken or peeked at
+abbrev pub received : ℕ → Taken → Option Taken → Mac → Mac
+received a t ahead m = set_register a (taken_word t) (record m { ahead = ahead })
+
+abbrev pub take_input : ℕ → Mac → List ℕ → Stepped
+take_input a m input = let t = next_taken m.ahead input in Went (Some (Event.Took t)) (received a t (kept_ahead t) m) (rest_after m.ahead input)
 
 -- the same answer, which stays ahead
-abbrev pub peek_input : ℕ → Mac → Option Taken → List ℕ → Stepped
-peek_input a m (Some t) input = Went None (set_register a (taken_word t) m) input
-peek_input a m None [] = Went None (set_register a end_object (record m { ahead = Some Taken.End })) []
-peek_input a m None (b ∷ input) = Went None (set_register a (Char b) (record m { ahead = Some (Taken.Byte b) })) input
+abbrev pub peek_input : ℕ → Mac → List ℕ → Stepped
+peek_input a m input = let t = next_taken m.ahead input in Went None (received a t (Some t) m) (rest_after m.ahead input)
 
 -- an outcome with the input
 abbrev pub with_input : Mac → List ℕ → Outcome → Stepped
 with_input m input (Goes m') = Went None m' input
 with_input m input (Emits e m') = Went (Some e) m' input
-with_input m input (TakesTo a) = take_input a m m.ahead input
-with_input m input (PeeksTo a) = peek_input a m m.ahead input
+with_input m input (TakesTo a) = take_input a m input
+with_input m input (PeeksTo a) = peek_input a m input
 with_input m input (Stops s) = Stopped s
 
 -- the step from a state with this input
