@@ -147,9 +147,9 @@ is_special n _ = false
 abbrev pub with_length : Word → (ℕ → Effect) → Effect
 with_length w k = with_fix w (λ n. with_index n (2 ^ 24) k)
 
--- the length of an object
+-- the length of an object, which is a fixnum
 abbrev pub gives_length : Option Placed → Effect
-gives_length o = with_object o (λ p. Gives (Fix (pos p.size)))
+gives_length o = with_object o (λ p. cond (is_fixnum (pos p.size)) (Gives (Fix (pos p.size))) NoNextStep)
 
 -- both operands are fixnums
 abbrev pub with_fixes : Word → Word → (ℤ → ℤ → Effect) → Effect

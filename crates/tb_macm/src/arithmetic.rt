@@ -1,7 +1,7 @@
 //! The primitives on numbers, characters and single words.
 
 ghost use Rattle.std.specs.Prelude.{◌≡◌, ◌≢◌, ◌+ℤ◌, ◌-ℤ◌, ◌*ℤ◌, int_div, int_rem, int_lt, int_le, pos, cond};
-ghost use Rattle.tb_mac.specs.Effects.{with_fixes, with_divisor, with_fix, with_char, with_index, gives_fix, gives_truth, modulo_of, is_zero, same_truth, Gives};
+ghost use Rattle.tb_mac.specs.Effects.{with_fixes, with_divisor, with_fix, with_char, with_index, gives_fix, gives_truth, modulo_of, is_zero, same_truth, is_boolean, is_char, is_integer, is_special, Gives};
 ghost use Rattle.tb_mac.specs.Words.{same_int};
 ghost use Rattle.tb_macm.specs.calls.Quiet.{effect_of};
 
@@ -159,5 +159,39 @@ pub fn char_of_code(u: Word) -> Answer
         Word::Fix(n) if n >= 0 && n < 256 => Answer::Gives(Word::Char(n as u8)),
         Word::Fix(_) => Answer::Fails(Cause::Range),
         _ => WRONG_TYPE,
+    }
+}
+
+/// The word is true or false.
+pub fn boolean(u: Word) -> Answer
+    ensures { effect_of result ≡ gives_truth (is_boolean u) }
+{
+    match u {
+        Word::Special(k) => truth(k < 2),
+        _ => truth(false),
+    }
+}
+
+/// The word is a character.
+pub fn character(u: Word) -> Answer
+    ensures { effect_of result ≡ gives_truth (is_char u) }
+{
+    truth(matches!(u, Word::Char(_)))
+}
+
+/// The word is a fixnum.
+pub fn integer(u: Word) -> Answer
+    ensures { effect_of result ≡ gives_truth (is_integer u) }
+{
+    truth(matches!(u, Word::Fix(_)))
+}
+
+/// The word is the special with this number.
+pub fn is_special(u: Word, number: u8) -> Answer
+    ensures { effect_of result ≡ gives_truth (is_special number u) }
+{
+    match u {
+        Word::Special(k) => truth(k == number),
+        _ => truth(false),
     }
 }
