@@ -6,6 +6,7 @@ mod answer;
 mod arithmetic;
 mod calls;
 mod objects;
+mod ports;
 mod primitives;
 mod state;
 mod step;

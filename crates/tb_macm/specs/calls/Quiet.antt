@@ -14,7 +14,7 @@ use Rattle.tb_macm.specs.declared.answer.Answer.TheVariants as A
 use Rattle.tb_macm.specs.declared.answer.Walk.{Walk}
 use Rattle.tb_macm.specs.declared.answer.Walk.TheVariants as W
 use Rattle.tb_macm.specs.declared.step.Step.{Step}
-use Rattle.tb_macm.specs.Steps.{byte_of, Made, ReadFails, Rests, told}
+use Rattle.tb_macm.specs.Steps.{byte_of, bytes_of, Adds, Made, ReadFails, WriteFails, Rests, told}
 
 -- a step without input and output was made as the definition has it, or was not made for the definition's
 -- reason, and the state stays
@@ -45,6 +45,12 @@ byte_of_some (Some e) = byte_of e
 abbrev pub ReadDoes : Outcome → Mac → Mac → Option (List ℕ) → Option (List ℕ) → ℕ → ℕ → Step → Type 0
 ReadDoes outcome old new left left' f f' (Step.Went e) = Made outcome old new left left' e × (byte_of_some e ≡ None)
 ReadDoes outcome old new left left' f f' (Step.Stopped s) = ReadFails old outcome f f' s × (new ≡ old) × Rests left left' (told left) (told left)
+
+-- a step that writes
+abbrev pub WriteDoes : Outcome → Mac → Mac → Option (List ℕ) → Option (List ℕ) → ℕ → ℕ → Step → Type 0
+WriteDoes outcome old new held held' f f' (Step.Went None) = ⊥
+WriteDoes outcome old new held held' f f' (Step.Went (Some e)) = (outcome ≡ Emits e new) × Adds held held' (bytes_of (Some e))
+WriteDoes outcome old new held held' f f' (Step.Stopped s) = WriteFails outcome f f' s × (new ≡ old) × Adds held held' []
 
 -- the effect of an answer
 abbrev pub effect_of : Answer → Effect
