@@ -70,11 +70,14 @@ pub record Faults : Type 0 where
   pub read : ℕ
   pub write : ℕ
 
+abbrev pub faults : ℕ → ℕ → Faults
+faults r w = record { read = r; write = w }
+
 -- the step was made as the definition has it, with the input of the source, and its byte was put; or it was not
 -- made, for the definition's reason or for want of a source or a sink, nothing was taken or put and the state
 -- stays
 abbrev pub StepDoes : Outcome → Mac → Mac → Option (List ℕ) → Option (List ℕ) → Option (List ℕ) → Option (List ℕ) → Faults → Faults → Step → Type 0
 StepDoes outcome old new left left' held held' f f' (Step.Went e) = Made outcome old new left left' e × Adds held held' (bytes_of e)
 StepDoes outcome old new left left' held held' f f' (Step.Stopped s) =
-    ((outcome ≡ Stops s) ⊎ ReadFails old outcome f.read f'.read s ⊎ WriteFails outcome f.write f'.write s)
+    ((outcome ≡ Stops s) ⊎ (ReadFails old outcome f.read f'.read s ⊎ WriteFails outcome f.write f'.write s))
     × (new ≡ old) × Rests left left' (told left) (told left) × Adds held held' []

@@ -6,6 +6,7 @@ mod answer;
 mod arithmetic;
 mod calls;
 mod objects;
+mod perform;
 mod ports;
 mod primitives;
 mod state;

@@ -1,5 +1,5 @@
 -- What the parts of a step do: those without input and output, and those with.
-use Rattle.std.specs.Prelude.{◌≡◌, ◌≢◌, ◌<◌, ◌≤◌, ℕ, List, [], ◌∷◌, ◌++◌, take, Bool, Option, Some, None, Result, Ok, Err}
+use Rattle.std.specs.Prelude.{◌≡◌, ◌≢◌, ◌⊎◌, ◌<◌, ◌≤◌, ℕ, List, [], ◌∷◌, ◌++◌, take, Bool, Option, Some, None, Result, Ok, Err}
 use Rattle.tb_prim.specs.declared.event.Event.{Event}
 use Rattle.tb_prim.specs.declared.event.Stop.{Stop}
 use Rattle.tb_prim.specs.declared.event.Taken.{Taken}
@@ -51,6 +51,14 @@ abbrev pub WriteDoes : Outcome → Mac → Mac → Option (List ℕ) → Option 
 WriteDoes outcome old new held held' f f' (Step.Went None) = ⊥
 WriteDoes outcome old new held held' f f' (Step.Went (Some e)) = (outcome ≡ Emits e new) × Adds held held' (bytes_of (Some e))
 WriteDoes outcome old new held held' f f' (Step.Stopped s) = WriteFails outcome f f' s × (new ≡ old) × Adds held held' []
+
+-- a step that may read: it did, or it was made without input
+abbrev pub InputDoes : Outcome → Mac → Mac → Option (List ℕ) → Option (List ℕ) → ℕ → ℕ → Step → Type 0
+InputDoes outcome old new left left' f f' r = ReadDoes outcome old new left left' f f' r ⊎ (Does outcome old new r × (left' ≡ left))
+
+-- a step that may write: it did, or it was made without output
+abbrev pub OutputDoes : Outcome → Mac → Mac → Option (List ℕ) → Option (List ℕ) → ℕ → ℕ → Step → Type 0
+OutputDoes outcome old new held held' f f' r = WriteDoes outcome old new held held' f f' r ⊎ (Does outcome old new r × (held' ≡ held))
 
 -- the effect of an answer
 abbrev pub effect_of : Answer → Effect
