@@ -2,3 +2,4 @@ pub mod Words
 pub mod Lists
 pub mod Inputs
 pub mod StepLaws
+pub mod StepRules
