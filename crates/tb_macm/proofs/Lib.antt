@@ -3,3 +3,5 @@ pub mod Lists
 pub mod Inputs
 pub mod StepLaws
 pub mod StepRules
+pub mod Uses
+pub mod RunLaws
