@@ -13,14 +13,14 @@ use Rattle.tb_mac.specs.Words.{on_some, empty_list, same_word}
 use Rattle.tb_macm.specs.declared.answer.Walk.TheVariants as W
 use Rattle.tb_macm.specs.calls.Quiet.{walked_of}
 
-drop_all : (ws : List Word) (k : ℕ) → k ≡ length ws → drop k ws ≡ []
+pub drop_all : {X : Type 0} (ws : List X) (k : ℕ) → k ≡ length ws → drop k ws ≡ []
 drop_all [] zero e = refl
 drop_all [] (suc k) e = refl
 drop_all (w ∷ ws) zero e = absurd (omega (arith, e))
 drop_all (w ∷ ws) (suc k) e = drop_all ws k (omega (arith, e))
 
 -- a word that was read is the first of those that are left
-drop_here : (ws : List Word) (k : ℕ) (w : Word) → k < length ws → w ≡ get_or ws k w → drop k ws ≡ w ∷ drop (k + 1) ws
+pub drop_here : {X : Type 0} (ws : List X) (k : ℕ) (w : X) → k < length ws → w ≡ get_or ws k w → drop k ws ≡ w ∷ drop (k + 1) ws
 drop_here ws k w lt h =
     let kk : suc k ≡ k + 1 = omega arith in
     drop-cons ws k w lt ∙ ap (λ x. x ∷ drop (suc k) ws) (sym h) ∙ ap (λ n. w ∷ drop n ws) kk

@@ -5,6 +5,7 @@
 mod answer;
 mod arithmetic;
 mod calls;
+mod machine;
 mod objects;
 mod perform;
 mod ports;
@@ -12,4 +13,5 @@ mod primitives;
 mod state;
 mod step;
 
+pub use machine::MacMachine;
 pub use step::Step;

@@ -22,7 +22,7 @@ pub struct State {
 }
 
 impl State {
-    ghost use Rattle.std.specs.Prelude.{◌≡◌, ◌+◌, ◌<◌, ◌≤◌, ◌^◌, vec_len, length, None, nat_le, cond};
+    ghost use Rattle.std.specs.Prelude.{◌≡◌, ◌+◌, ◌<◌, ◌≤◌, ◌^◌, vec_len, Some, slice_get};
     ghost use Rattle.tb_mac.specs.CodeOf.{code_of};
     ghost use Rattle.tb_mac.specs.Words.{is_undefined};
     ghost use Rattle.tb_mac.specs.Effects.{object_at, procedure_at};
@@ -54,6 +54,14 @@ impl State {
         self.memory[at] = w;
         self.pc += 1;
         Step::Went(None)
+    }
+
+    /// The word of a register.
+    pub fn register(&self, a: u8) -> Word
+        requires { a ≤ 16 }
+        ensures { slice_get (mac_of self.now).registers a ≡ Some result }
+    {
+        self.registers[a as usize]
     }
 
     /// A word of the heap.
