@@ -1,0 +1,6 @@
+//! The expansion of data into the core language: what a datum means in an environment, and the first refusal in it.
+#![tactic(auto)]
+
+mod laws;
+
+pub use laws::{one_answer_a_datum, one_answer_a_text};
