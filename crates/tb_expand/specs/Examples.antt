@@ -63,11 +63,27 @@ splitting =
     word 70 (codes "y") ∷ number 72 1 ∷ []) ∷ row 75 (word 76 (codes "set!") ∷ word 81 (codes "g") ∷ word 83
     (codes "f") ∷ []) ∷ row 86 (word 87 (codes "f") ∷ word 89 (codes "y") ∷ []) ∷ []) ∷ [])
 
+abbrev pub splitting_nodes : Nodes
+splitting_nodes =
+    nodes (At (at 1) (Lambda (var 1 (codes "a") ∷ []) None (At (at 1) (Let (var 3 (codes "g") ∷ var 4 (codes
+    "y") ∷ []) (nodes (At (at 1) Undefined ∷ At (at 1) Undefined ∷ [])) (At (at 1) (Letrec (var 2 (codes "f") ∷
+    []) (nodes (At (at 23) (Lambda (var 5 (codes "x") ∷ []) None (At (at 35) (Call (local 36 (var 3 (codes
+    "g"))) (nodes (local 38 (var 5 (codes "x")) ∷ []))))) ∷ [])) (At (at 1) (Seq (nodes (At (at 1) (SetLocal
+    (var 3 (codes "g")) (At (at 43) (Lambda [] (Some (var 6 (codes "x"))) (local 59 (var 6 (codes "x")))))) ∷
+    At (at 1) (SetLocal (var 4 (codes "y")) (fixed 72 1)) ∷ At (at 75) (SetLocal (var 3 (codes "g")) (local 83
+    (var 2 (codes "f")))) ∷ At (at 86) (Call (local 87 (var 2 (codes "f"))) (nodes (local 89 (var 4 (codes
+    "y")) ∷ []))) ∷ [])))))))))  ∷ [])
+
 -- `(lambda (car if) (if car))`
 abbrev pub hiding : datum.Trees
 hiding =
     trees (row 1 (word 2 (codes "lambda") ∷ row 9 (word 10 (codes "car") ∷ word 14 (codes "if") ∷ []) ∷ row 18
     (word 19 (codes "if") ∷ word 22 (codes "car") ∷ []) ∷ []) ∷ [])
+
+abbrev pub hiding_nodes : Nodes
+hiding_nodes =
+    nodes (At (at 1) (Lambda (var 1 (codes "car") ∷ var 1 (codes "if") ∷ []) None (At (at 18) (Call (local 19
+    (var 1 (codes "if"))) (nodes (local 22 (var 1 (codes "car")) ∷ []))))) ∷ [])
 
 -- `(letrec ((f (begin (lambda () (begin) (begin (define a 1) (begin)) a)))) f)`
 abbrev pub beginning : datum.Trees
@@ -78,6 +94,13 @@ beginning =
     59 (word 60 (codes "begin") ∷ []) ∷ []) ∷ word 68 (codes "a") ∷ []) ∷ []) ∷ []) ∷ []) ∷ word 74 (codes "f")
     ∷ []) ∷ [])
 
+abbrev pub beginning_nodes : Nodes
+beginning_nodes =
+    nodes (At (at 1) (Letrec (var 1 (codes "f") ∷ []) (nodes (At (at 20) (Lambda [] None (At (at 20) (Let (var
+    3 (codes "a") ∷ []) (nodes (At (at 20) Undefined ∷ [])) (At (at 20) (Seq (nodes (At (at 20) (SetLocal (var
+    3 (codes "a")) (fixed 56 1)) ∷ local 68 (var 3 (codes "a")) ∷ [])))))))  ∷ [])) (local 74 (var 1 (codes
+    "f")))) ∷ [])
+
 -- `(begin (define (f) 'x) (begin)) (set! f f) (define list 1) list`
 abbrev pub globals : datum.Trees
 globals =
@@ -85,6 +108,12 @@ globals =
     row 20 (word 20 (codes "quote") ∷ word 21 (codes "x") ∷ []) ∷ []) ∷ row 24 (word 25 (codes "begin") ∷ []) ∷
     []) ∷ row 33 (word 34 (codes "set!") ∷ word 39 (codes "f") ∷ word 41 (codes "f") ∷ []) ∷ row 44 (word 45
     (codes "define") ∷ word 52 (codes "list") ∷ number 57 1 ∷ []) ∷ word 60 (codes "list") ∷ [])
+
+abbrev pub globals_nodes : Nodes
+globals_nodes =
+    nodes (At (at 8) (DefGlobal (codes "f") (At (at 8) (Lambda [] None (At (at 20) (Constant (datum.Name (codes
+    "x") 0)))))) ∷ At (at 33) (SetGlobal (at 39) (codes "f") (At (at 41) (Global (codes "f")))) ∷ At (at 44)
+    (DefGlobal (codes "list") (fixed 57 1)) ∷ At (at 60) (Global (codes "list")) ∷ [])
 
 -- `(if)`
 abbrev pub shapeless : datum.Trees
@@ -128,6 +157,13 @@ hidden_define =
     trees (row 1 (word 2 (codes "lambda") ∷ empty 9 ∷ row 12 (word 13 (codes "define") ∷ word 20 (codes
     "define") ∷ number 27 1 ∷ []) ∷ row 30 (word 31 (codes "define") ∷ word 38 (codes "a") ∷ number 40 2 ∷ [])
     ∷ []) ∷ [])
+
+abbrev pub hidden_define_nodes : Nodes
+hidden_define_nodes =
+    nodes (At (at 1) (Lambda [] None (At (at 1) (Let (var 2 (codes "define") ∷ []) (nodes (At (at 1) Undefined
+    ∷ [])) (At (at 1) (Seq (nodes (At (at 1) (SetLocal (var 2 (codes "define")) (fixed 27 1)) ∷ At (at 30)
+    (Call (local 31 (var 2 (codes "define"))) (nodes (At (at 38) (Global (codes "a")) ∷ fixed 40 2 ∷ []))) ∷
+    [])))))))  ∷ [])
 
 -- `(define f car) (if)`
 abbrev pub unbuilt : datum.Trees

@@ -1,6 +1,8 @@
 //! The expansion of data into the core language: what a datum means in an environment, and the first refusal in it.
 #![tactic(auto)]
 
+mod examples;
 mod laws;
 
+pub use examples::{worked_refusals, worked_texts};
 pub use laws::{one_answer_a_datum, one_answer_a_text};
