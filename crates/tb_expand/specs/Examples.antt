@@ -115,6 +115,17 @@ globals_nodes =
     "x") 0)))))) ∷ At (at 33) (SetGlobal (at 39) (codes "f") (At (at 41) (Global (codes "f")))) ∷ At (at 44)
     (DefGlobal (codes "list") (fixed 57 1)) ∷ At (at 60) (Global (codes "list")) ∷ [])
 
+-- `'(a b . a) 'b`
+abbrev pub symbols : datum.Trees
+symbols =
+    trees (row 1 (word 1 (codes "quote") ∷ dotted 2 (word 3 (codes "a") ∷ word 5 (codes "b") ∷ []) (word 9
+    (codes "a")) ∷ []) ∷ row 12 (word 12 (codes "quote") ∷ word 13 (codes "b") ∷ []) ∷ [])
+
+abbrev pub symbols_nodes : Nodes
+symbols_nodes =
+    nodes (At (at 1) (Constant (datum.Dotted (trees (word 3 (codes "a") ∷ word 5 (codes "b") ∷ [])) (word 9
+    (codes "a")))) ∷ At (at 12) (Constant (datum.Name (codes "b") 0)) ∷ [])
+
 -- `(if)`
 abbrev pub shapeless : datum.Trees
 shapeless =

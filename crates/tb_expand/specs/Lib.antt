@@ -11,5 +11,6 @@ pub mod Bodies
 pub mod Means
 pub mod Outside
 pub mod Texts
+pub mod Numbers
 pub mod Examples
 pub mod calls

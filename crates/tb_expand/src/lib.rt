@@ -4,5 +4,5 @@
 mod examples;
 mod laws;
 
-pub use examples::{worked_refusals, worked_texts};
+pub use examples::{worked_numbers, worked_refusals, worked_texts};
 pub use laws::{one_answer_a_datum, one_answer_a_text};

@@ -22,5 +22,6 @@ returns c = record {
   hiding = a_text (forms_sound 20 no_state (top_context false) text.hiding) refl;
   beginning = a_text (forms_sound 20 no_state (top_context false) text.beginning) refl;
   hidden_define = a_text (forms_sound 20 no_state (top_context false) text.hidden_define) refl;
+  symbols = a_text (forms_sound 20 no_state (top_context false) text.symbols) refl;
   globals = a_text (forms_sound 20 no_state (top_context false) text.globals) refl;
 }
