@@ -12,5 +12,6 @@ pub mod Means
 pub mod Outside
 pub mod Texts
 pub mod Numbers
+pub mod View
 pub mod Examples
 pub mod calls
