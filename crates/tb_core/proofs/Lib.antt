@@ -8,6 +8,7 @@ pub mod Numbers
 pub mod Stores
 pub mod Lines
 pub mod Fits
+pub mod Partners
 pub mod Kept
 pub mod NeverLost
 pub mod Views

@@ -13,19 +13,20 @@ use Rattle.tb_semantics.proofs.RunLaws.{run-add}
 use Rattle.tb_core.specs.Tree.{Tree, Node, Form, Quote, Local, Global, Lambda, If, SetLocal, SetGlobal, DefGlobal, Let, Letrec, Seq, Call, PrimUse, Apply, Trees, none, more, count, tree_at, LambdaTree, ProgramTree, parameters, option_list}
 use Rattle.tb_core.specs.FreeVariables.{is_in, without, of_lambdas, free, free_form, free_all, inner_free, is_assigned}
 use Rattle.tb_core.specs.OperandOrder.{operands, has_order, line_at, order_of}
-use Rattle.tb_core.specs.Store.{Value, Fix, Char, Truth, Nil, Unspecified, Undefined, EndObject, At, Env, Item, Var, Clo, lookup, cut, bind_from, static_item}
+use Rattle.tb_core.specs.Store.{Value, Fix, Char, Truth, Nil, Unspecified, Undefined, EndObject, At, Env, Object, Item, Var, Obj, Clo, contents, lookup, cut, bind_from, static_item}
 use Rattle.tb_core.specs.Effects.{Effect, is_false}
 use Rattle.tb_core.specs.Space.{made, made_of}
 use Rattle.tb_core.specs.Rules.{Every, Each, EachForm, EachAll, NodeKeeps, LambdaKeeps, KeepsRules}
 use Rattle.tb_core.specs.Events.{IsNotLost}
+use Rattle.tb_core.specs.Lists.{Walked, Elements, TooLong, NoList, list_value}
 use Rattle.tb_core.specs.Reference
-use Rattle.tb_core.specs.Reference.{Control, Eval, Bound, Val, Entering, Work, Sel, SetVar, SetGlo, Rest, Args, Top, Frame, Config, State, Running, Stopped, Lost, Walked, Elements, TooLong, NoList, free_of_numbers, free_of_body, arranged, vars, located, closures, list_items, list_value, takes, reference}
+use Rattle.tb_core.specs.Reference.{Control, Eval, Bound, Val, Entering, Work, Sel, SetVar, SetGlo, Rest, Args, Top, Frame, Config, State, Running, Stopped, Lost, free_of_numbers, free_of_body, arranged, vars, located, closures, list_items, takes, reference}
 use Rattle.tb_core.proofs.Members.{in-left, in-right, in-either, in-without}
 use Rattle.tb_core.proofs.Numbers.{free-of-lambda, forms-have-lines, bodies-have-lines}
 use Rattle.tb_core.proofs.Lines.{line-within, line-all, line-length, tree-within, arranged-length}
-use Rattle.tb_core.proofs.Fits.{Fit, gives, makes, changes, puts, takes as takes_input, peeks, fails, fits}
+use Rattle.tb_core.proofs.Fits.{Fit, gives, makes, changes, puts, takes as takes_input, peeks, fails, misused, fits}
 use Rattle.tb_core.proofs.Stores
-use Rattle.tb_core.proofs.Stores.{VarAt, Found, Covers, Extends, covers-cut, covers-own, extends_refl, extends-append, extends-set, get-right, covers-bound, vars-at, vars-no-closure, located-at, located-no-closure, pairs-no-closure, SameKind, var_kind}
+use Rattle.tb_core.proofs.Stores.{VarAt, Found, Covers, Extends, covers-cut, covers-own, extends_refl, extends-append, extends-set, get-right, covers-bound, vars-at, vars-no-closure, located-at, located-no-closure, pairs-no-closure, SameKind, var_kind, obj_kind, content-object}
 use Rattle.tb_core.proofs.Kept.{NodeOk, both, both_all, each-at, operand-each, let_free, let-free-body, free-at, covers-operands, own_context, CloOk, StoreOk, ControlOk, ArgsOk, WorkOk, FramesOk, IsAbove, EndsTop, Base, After, store-append, store-set, go-ok, go-with-ok, base-push, base-mark}
 
 got : {X : Type 0} (xs : List X) (n : ℕ) → n < length xs → (x : X) × (slice_get xs n ≡ Some x)
@@ -140,21 +141,25 @@ module _ (p : ProgramTree) (rules : KeepsRules p) where
   peek_input c false [] fs es b = input_ok c c.input true _ fs es b
   peek_input c false (x ∷ bs) fs es b = go-ok p c _ fs es b tt
 
-  one_item : (m : ℕ) (r : Env) (i : Item) → (i ≡ Clo m r → ⊥) → IsIn (Clo m r) (i ∷ []) → ⊥
-  one_item m r i ne (inl e) = ne e
-  one_item m r i ne (inr j) = absurd j
+  one_object : (m : ℕ) (r : Env) (o : Object) → IsIn (Clo m r) (Obj o ∷ []) → ⊥
+  one_object m r o (inl e) = cc
+  one_object m r o (inr j) = absurd j
 
-  perform : (c : Config) (q : Place) (f : Effect) (fs : List Frame) (es : List Event) → Base p c fs → Fit c.store f → After p (made c.store) (Reference.perform c q f fs es)
-  perform c q _ fs es b gives = go-ok p c _ fs es b tt
-  perform c q _ fs es b (makes {i = i} ne) =
-      go-with-ok p c _ fs _ es b (extends-append c.store (i ∷ []))
-      (store-append p c.store (i ∷ []) b.store (λ m r j. absurd (one_item m r i (ne m r) j))) tt
-  perform c q _ fs es b (changes {l = l} {i = i} old e k) =
-      go-with-ok p c _ fs _ es b (extends-set c.store l old i e k) (store-set p c.store l old i e k b.store) tt
-  perform c q _ fs es b puts = go-ok p c _ fs es b tt
-  perform c q _ fs es b takes_input = take_input c _ _ fs es b
-  perform c q _ fs es b peeks = peek_input c _ _ fs es b
-  perform c q _ fs es b fails = omega arith
+  perform : (c : Config) (q : Place) (f : Effect) (fs : List Frame) {right : Type 0} (es : List Event) → right → Base p c fs → Fit (contents c.store) right f → After p (made c.store) (Reference.perform c q f fs es)
+  perform c q _ fs es ok b gives = go-ok p c _ fs es b tt
+  perform c q _ fs es ok b (makes {o = o}) =
+      go-with-ok p c _ fs _ es b (extends-append c.store (Obj o ∷ []))
+      (store-append p c.store (Obj o ∷ []) b.store (λ m r j. absurd (one_object m r o j))) tt
+  perform c q _ fs es ok b (changes {l = l} {o = o} old e k) =
+      let here = content-object (slice_get c.store l) old e in
+      let kind = obj_kind old o k in
+      go-with-ok p c _ fs _ es b (extends-set c.store l (Obj old) (Obj o) here kind)
+      (store-set p c.store l (Obj old) (Obj o) here kind b.store) tt
+  perform c q _ fs es ok b puts = go-ok p c _ fs es b tt
+  perform c q _ fs es ok b takes_input = take_input c _ _ fs es b
+  perform c q _ fs es ok b peeks = peek_input c _ _ fs es b
+  perform c q _ fs es ok b fails = omega arith
+  perform c q _ fs es ok b (misused wrong) = absurd (wrong ok)
 
   -- the variables of a `let` are made, and its body is evaluated
   let_body : (c : Config) (xs : List ℕ) (e : Tree) (vs : List Value) (r : Env) (fs : List Frame) (es : List Event) → Base p c fs → Each (NodeOk p) e → length xs ≡ length vs → Covers c.store (without xs (free I e)) r → After p (made c.store) (Reference.go_with c (Reference.eval (own_context p) e (bind_from xs (length c.store) r)) fs (c.store ++ vars vs) es)
@@ -172,7 +177,7 @@ module _ (p : ProgramTree) (rules : KeepsRules p) where
   complete c q s (Apply f g) (v ∷ []) r fs es b o k n l h = absurd (omega arith)
   complete c q s (Apply f g) (v ∷ w ∷ []) r fs es b o k n l h = apply c q v w fs es b
   complete c q s (Apply f g) (v ∷ w ∷ u ∷ vs) r fs es b o k n l h = absurd (omega arith)
-  complete c q s (PrimUse pr ds) vs r fs es b o k n l h = perform c q _ fs es b (fits c.store pr vs (l ∙ k.shaped))
+  complete c q s (PrimUse pr ds) vs r fs es b o k n l h = perform c q _ fs es (l ∙ k.shaped) b (fits (contents c.store) pr vs)
   complete c q s (Let xs ds e) vs r fs es b o k n l h = let_body c xs e vs r fs es b n.1 (k.shaped ∙ sym l) h
   complete c q s _ vs r fs es b o k n l h = cc
 

@@ -1,11 +1,12 @@
 -- Variables that an environment finds in a store, and what stores keep of one another.
-use Rattle.std.proofs.Common.{◌≡◌, refl, sym, ap, ◌∙◌, ℕ, zero, suc, ◌+◌, ◌<◌, ◌≤◌, ◌⊎◌, inl, inr, ⊎_elim, arith, Bool, true, false, cond, ◌==◌, ◌||◌, List, [], ◌∷◌, ◌++◌, length, Some, slice_get, slice_set, eqb-true}
+use Rattle.std.proofs.Common.{◌≡◌, refl, sym, ap, ◌∙◌, ℕ, zero, suc, ◌+◌, ◌<◌, ◌≤◌, ◌⊎◌, inl, inr, ⊎_elim, arith, Bool, true, false, cond, ◌==◌, ◌||◌, List, [], ◌∷◌, ◌++◌, length, map, Option, Some, None, slice_get, slice_set, eqb-true}
 use Rattle.std.proofs.lemmas.Bool.{eqb-false, cases_Bool}
 use Rattle.std.proofs.lemmas.Option.{same_Some}
 use Rattle.tb_semantics.specs.Graph.{IsIn}
 use Rattle.tb_core.specs.FreeVariables.{is_in}
-use Rattle.tb_core.specs.Store.{Value, At, Env, Item, Var, Pair, Vec, Str, Clo, lookup, cut, bind_from, flat_size}
+use Rattle.tb_core.specs.Store.{Value, At, Object, Pair, Vec, Str, Env, Item, Var, Obj, Clo, Holds, content_of, lookup, cut, bind_from, object_size, flat_size}
 use Rattle.tb_core.specs.Space.{made}
+use Rattle.tb_core.specs.Lists.{list_objects}
 use Rattle.tb_core.specs.Reference.{vars, located, list_items}
 use Rattle.tb_core.proofs.Members.{in-tested, tested-in}
 use Rattle.tb_core.proofs.Cuts.{cut-kept}
@@ -90,36 +91,43 @@ made_set [] l old i e s = cc
 made_set (x ∷ st) zero old i e s = ap (λ n. n + made st) (sym s ∙ sym (ap flat_size (same_Some x old e)))
 made_set (x ∷ st) (suc l) old i e s = ap (λ n. flat_size x + n) (made_set st l old i e s)
 
--- the kinds of items that a change keeps
+-- the kinds of objects that a change keeps, with their sizes
+pub data SameObject : Object → Object → Type 0 where
+  pair_kind : (a b c d : Value) → SameObject (Pair a b) (Pair c d)
+  vec_kind : (vs ws : List Value) → length vs ≡ length ws → SameObject (Vec vs) (Vec ws)
+  str_kind : (bs cs : List ℕ) → length bs ≡ length cs → SameObject (Str bs) (Str cs)
+
 pub data SameKind : Item → Item → Type 0 where
   var_kind : (v w : Value) → SameKind (Var v) (Var w)
-  pair_kind : (a b c d : Value) → SameKind (Pair a b) (Pair c d)
-  vec_kind : (vs ws : List Value) → length vs ≡ length ws → SameKind (Vec vs) (Vec ws)
-  str_kind : (bs cs : List ℕ) → length bs ≡ length cs → SameKind (Str bs) (Str cs)
+  obj_kind : (o n : Object) → SameObject o n → SameKind (Obj o) (Obj n)
+
+pub same-size : (o n : Object) → SameObject o n → object_size o ≡ object_size n
+same-size _ _ (pair_kind a b c d) = refl
+same-size _ _ (vec_kind vs ws e) = ap (λ n. n + 1) e
+same-size _ _ (str_kind bs cs e) = ap (λ n. n + 1) e
 
 kind_size : (old i : Item) → SameKind old i → flat_size old ≡ flat_size i
 kind_size _ _ (var_kind v w) = refl
-kind_size _ _ (pair_kind a b c d) = refl
-kind_size _ _ (vec_kind vs ws e) = ap (λ n. n + 1) e
-kind_size _ _ (str_kind bs cs e) = ap (λ n. n + 1) e
+kind_size _ _ (obj_kind o n k) = same-size o n k
 
 kind_var : (old i : Item) (u : Value) → SameKind old i → old ≡ Var u → (v : Value) × (i ≡ Var v)
 kind_var _ _ u (var_kind v w) e = (w, refl)
-kind_var _ _ u (pair_kind a b c d) e = cc
-kind_var _ _ u (vec_kind vs ws q) e = cc
-kind_var _ _ u (str_kind bs cs q) e = cc
+kind_var _ _ u (obj_kind o n k) e = cc
 
 kind_closure : (old i : Item) (m : ℕ) (r : Env) → SameKind old i → old ≡ Clo m r → ⊥
 kind_closure _ _ m r (var_kind v w) e = cc
-kind_closure _ _ m r (pair_kind a b c d) e = cc
-kind_closure _ _ m r (vec_kind vs ws q) e = cc
-kind_closure _ _ m r (str_kind bs cs q) e = cc
+kind_closure _ _ m r (obj_kind o n k) e = cc
 
 kind_new : (old i : Item) (m : ℕ) (r : Env) → SameKind old i → i ≡ Clo m r → ⊥
 kind_new _ _ m r (var_kind v w) e = cc
-kind_new _ _ m r (pair_kind a b c d) e = cc
-kind_new _ _ m r (vec_kind vs ws q) e = cc
-kind_new _ _ m r (str_kind bs cs q) e = cc
+kind_new _ _ m r (obj_kind o n k) e = cc
+
+-- where the primitives see an object stands its item
+pub content-object : (i : Option Item) (o : Object) → content_of i ≡ Holds o → i ≡ Some (Obj o)
+content-object None o e = cc
+content-object (Some (Var v)) o e = cc
+content-object (Some (Obj n)) o e = let h : n ≡ o = cc in ap (λ x. Some (Obj x)) h
+content-object (Some (Clo m r)) o e = cc
 
 pub extends-set : (st : List Item) (l : ℕ) (old i : Item) → slice_get st l ≡ Some old → SameKind old i → Extends st (slice_set st l i)
 extends-set st l old i e k = record {
@@ -191,8 +199,9 @@ located-no-closure (x ∷ xs) l m r (inl e) = cc
 located-no-closure (x ∷ xs) l m r (inr i) = located-no-closure xs (suc l) m r i
 
 pub pairs-no-closure : (vs : List Value) (l m : ℕ) (r : Env) → IsIn (Clo m r) (list_items vs l) → ⊥
-pairs-no-closure [] l m r i = absurd i
-pairs-no-closure (v ∷ []) l m r (inl e) = cc
-pairs-no-closure (v ∷ []) l m r (inr i) = absurd i
-pairs-no-closure (v ∷ w ∷ ws) l m r (inl e) = cc
-pairs-no-closure (v ∷ w ∷ ws) l m r (inr i) = pairs-no-closure (w ∷ ws) (suc l) m r i
+pairs-no-closure vs l m r = objects_only (list_objects vs l)
+  where
+    objects_only : (os : List Object) → IsIn (Clo m r) (map Obj os) → ⊥
+    objects_only [] i = absurd i
+    objects_only (o ∷ os) (inl e) = cc
+    objects_only (o ∷ os) (inr i) = objects_only os i

@@ -10,8 +10,9 @@ use Rattle.tb_core.specs.Tree.{Tree, Node, Form, Quote, Local, Global, Lambda, I
 use Rattle.tb_core.specs.OperandOrder.{Line, operands}
 use Rattle.tb_core.specs.Store.{Value, Undefined, At, Env, Item, Clo, lookup}
 use Rattle.tb_core.specs.Effects.{Effect, Gives, Makes, Changes, Puts, Takes, Peeks, Fails, Misused}
+use Rattle.tb_core.specs.Lists.{Walked, Elements, TooLong, NoList}
 use Rattle.tb_core.specs.Reference
-use Rattle.tb_core.specs.Reference.{Control, Eval, Bound, Val, Entering, Work, Sel, SetVar, SetGlo, Rest, Args, Top, Frame, Config, State, Running, Stopped, Lost, Context, Walked, Elements, TooLong, NoList, events_of, reference}
+use Rattle.tb_core.specs.Reference.{Control, Eval, Bound, Val, Entering, Work, Sel, SetVar, SetGlo, Rest, Args, Top, Frame, Config, State, Running, Stopped, Lost, Context, events_of, reference}
 use Rattle.tb_core.specs.Events.{calls, IsFinal, ComesToCall}
 
 -- the weights of the operands of these numbers, and one more for each

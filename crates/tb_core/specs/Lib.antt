@@ -5,12 +5,16 @@ pub mod FreeVariables
 pub mod OperandOrder
 pub mod Store
 pub mod Effects
+pub mod Lists
+pub mod Partners
 pub mod Reference
 pub mod Events
 pub mod Space
+pub mod Measures
 pub mod Width
 pub mod Limits
 pub mod FirstUses
 pub mod Order
+pub mod Lifting
 pub mod Rules
 pub mod Examples

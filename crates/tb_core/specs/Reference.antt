@@ -10,8 +10,9 @@ use Rattle.tb_semantics.specs.Runs.{Machine}
 use Rattle.tb_core.specs.Tree.{Tree, Node, Form, Quote, Local, Global, Lambda, If, SetLocal, SetGlobal, DefGlobal, Let, Letrec, Seq, Call, PrimUse, Apply, Trees, none, more, tree_at, LambdaTree, ProgramTree}
 use Rattle.tb_core.specs.FreeVariables.{free, free_form, free_all, inner_free}
 use Rattle.tb_core.specs.OperandOrder.{operands, Line, line_at}
-use Rattle.tb_core.specs.Store.{Value, Char, Nil, Unspecified, Undefined, EndObject, At, Env, Empty, Item, Var, Pair, Clo, lookup, cut, bind_from, value_of, static_item}
+use Rattle.tb_core.specs.Store.{Value, Char, Unspecified, Undefined, EndObject, At, Env, Empty, Item, Var, Obj, Clo, contents, lookup, cut, bind_from, value_of, static_item}
 use Rattle.tb_core.specs.Effects.{Effect, Gives, Makes, Changes, Puts, Takes, Peeks, Fails, Misused, is_false, effect_of}
+use Rattle.tb_core.specs.Lists.{Walked, Elements, TooLong, NoList, walked, list_objects, list_value}
 
 -- what is done next: an expression is evaluated, or one whose environment is not cut yet; a value is given
 -- to the frame on top; or a procedure, known by its location, is entered with its operands
@@ -159,40 +160,6 @@ abbrev pub enter : Config → Place → Value → List Value → List Frame → 
 enter c p (At l) vs fs es = enter_at c p l (slice_get c.store l) vs fs es
 enter c p _ vs fs es = fail c Cause.NotProcedure p es
 
--- the list that an `apply` walks: its elements, or a list past twelve elements, or no list
-pub data Walked : Type 0 where
-  Elements : List Value → Walked
-  TooLong : Walked
-  NoList : Walked
-
-abbrev pub with_element : Value → Walked → Walked
-with_element v (Elements vs) = Elements (v ∷ vs)
-with_element v TooLong = TooLong
-with_element v NoList = NoList
-
-abbrev pub ends_list : Value → Walked
-ends_list Nil = Elements []
-ends_list _ = NoList
-
--- where no more elements are allowed: a further pair is one too many
-abbrev pub walked_at_limit : Value → Option Item → Walked
-walked_at_limit v (Some (Pair a b)) = TooLong
-walked_at_limit v _ = ends_list v
-
-abbrev pub item_at : List Item → Value → Option Item
-item_at st (At l) = slice_get st l
-item_at st _ = None
-
--- a pair is an element and what `rest` finds in its cdr
-abbrev pub walked_pair : (Value → Walked) → Value → Option Item → Walked
-walked_pair rest v (Some (Pair a b)) = with_element a (rest b)
-walked_pair rest v _ = ends_list v
-
--- the walk of a list that may have so many more elements
-abbrev pub walked : List Item → ℕ → Value → Walked
-walked st zero v = walked_at_limit v (item_at st v)
-walked st (suc n) v = walked_pair (walked st n) v (item_at st v)
-
 -- an `apply`: the operator first, then the walk of the list, each failure at the place of the `apply`
 abbrev pub apply_to : Config → Place → ℕ → ℕ → Walked → List Frame → List Event → State
 apply_to c p l m (Elements vs) fs es = go c (Entering l vs) (mark_top fs) (emit es (Event.Enter m))
@@ -200,7 +167,7 @@ apply_to c p l m TooLong fs es = fail c Cause.TooMany p es
 apply_to c p l m NoList fs es = fail c Cause.WrongType p es
 
 abbrev pub apply_at : Config → Place → ℕ → Option Item → Value → List Frame → List Event → State
-apply_at c p l (Some (Clo m r)) v fs es = apply_to c p l m (walked c.store 12 v) fs es
+apply_at c p l (Some (Clo m r)) v fs es = apply_to c p l m (walked (contents c.store) 12 v) fs es
 apply_at c p l _ v fs es = fail c Cause.NotProcedure p es
 
 abbrev pub apply : Config → Place → Value → Value → List Frame → List Event → State
@@ -221,8 +188,8 @@ peek_input c false (b ∷ bs) fs es = go c (Val (Char b)) fs es
 -- what a primitive does, carried out
 abbrev pub perform : Config → Place → Effect → List Frame → List Event → State
 perform c p (Gives v) fs es = go c (Val v) fs es
-perform c p (Makes i) fs es = go_with c (Val (At (length c.store))) fs (c.store ++ i ∷ []) es
-perform c p (Changes l i) fs es = go_with c (Val Unspecified) fs (slice_set c.store l i) es
+perform c p (Makes o) fs es = go_with c (Val (At (length c.store))) fs (c.store ++ Obj o ∷ []) es
+perform c p (Changes l o) fs es = go_with c (Val Unspecified) fs (slice_set c.store l (Obj o)) es
 perform c p (Puts ch) fs es = go c (Val Unspecified) fs (emit es (Event.Put ch))
 perform c p Takes fs es = take_input c c.met_end c.input fs es
 perform c p Peeks fs es = peek_input c c.met_end c.input fs es
@@ -233,7 +200,7 @@ perform c p Misused fs es = Lost c es
 abbrev pub complete : Context → Config → Place → Form → List Value → Env → List Frame → List Event → State
 complete x c p (Call f ds) (v ∷ vs) r fs es = enter c p v vs fs es
 complete x c p (Apply f l) (v ∷ w ∷ []) r fs es = apply c p v w fs es
-complete x c p (PrimUse pr ds) vs r fs es = perform c p (effect_of c.store pr vs) fs es
+complete x c p (PrimUse pr ds) vs r fs es = perform c p (effect_of (contents c.store) pr vs) fs es
 complete x c p (Let xs ds e) vs r fs es = go_with c (eval x e (bind_from xs (length c.store) r)) fs (c.store ++ vars vs) es
 complete x c p _ vs r fs es = Lost c es
 
@@ -285,15 +252,9 @@ abbrev pub takes : LambdaTree → Option ℕ → ℕ → Bool
 takes l None n = length l.formals == n
 takes l (Some y) n = nat_le (length l.formals) n
 
--- the pairs of a list that is newly made, at locations that follow one another, and the list
+-- the pairs of a new list as items
 abbrev pub list_items : List Value → ℕ → List Item
-list_items [] l = []
-list_items (v ∷ []) l = Pair v Nil ∷ []
-list_items (v ∷ w ∷ ws) l = Pair v (At (suc l)) ∷ list_items (w ∷ ws) (suc l)
-
-abbrev pub list_value : List Value → ℕ → Value
-list_value [] l = Nil
-list_value (v ∷ vs) l = At l
+list_items vs l = map Obj (list_objects vs l)
 
 -- the body is evaluated with a new variable for each parameter, and the list of the rest parameter
 abbrev pub bind_parameters : Context → Config → LambdaTree → Option ℕ → List Value → Env → List Event → State

@@ -3,7 +3,7 @@
 use Rattle.std.specs.Prelude.{ℕ, ◌+◌, List, [], ◌∷◌, ◌++◌, length, Option, Some, None, slice_get}
 use Rattle.tb_semantics.specs.Graph.{Graph, below, total}
 use Rattle.tb_core.specs.Tree.{ProgramTree}
-use Rattle.tb_core.specs.Store.{Value, At, Env, Empty, Bind, Item, Var, Pair, Vec, Str, Sym, Clo, env_size, flat_size}
+use Rattle.tb_core.specs.Store.{Value, At, Env, Empty, Bind, Object, Pair, Vec, Str, Sym, Item, Var, Obj, Clo, env_size, flat_size}
 use Rattle.tb_core.specs.Reference.{Control, Eval, Bound, Val, Entering, Work, Sel, SetVar, SetGlo, Rest, Args, Top, Frame, Config, State, config_of}
 
 -- the words of a control: the variables of its environment; a value; a procedure and its operands
@@ -45,13 +45,16 @@ abbrev pub env_locations : Env → List ℕ
 env_locations Empty = []
 env_locations (Bind x l r) = l ∷ env_locations r
 
--- the locations that an item leads to
+-- the locations that an object or an item leads to
+abbrev pub object_locations : Object → List ℕ
+object_locations (Pair a b) = value_locations a ++ value_locations b
+object_locations (Vec vs) = values_locations vs
+object_locations (Str cs) = []
+object_locations (Sym cs) = []
+
 abbrev pub item_locations : Item → List ℕ
 item_locations (Var v) = value_locations v
-item_locations (Pair a b) = value_locations a ++ value_locations b
-item_locations (Vec vs) = values_locations vs
-item_locations (Str cs) = []
-item_locations (Sym cs) = []
+item_locations (Obj o) = object_locations o
 item_locations (Clo l r) = env_locations r
 
 -- the locations that a control, what waits, and the frames have

@@ -10,7 +10,7 @@ ghost use Rattle.tb_core.specs.OperandOrder.{order_of};
 ghost use Rattle.tb_core.specs.Reference.{reference};
 ghost use Rattle.tb_core.specs.Space.{made_of, space_of};
 ghost use Rattle.tb_core.specs.Width.{all_widths, factor_bound, square_sum, width_of};
-ghost use Rattle.tb_core.specs.Store.{Bind, Clo, Empty, Fix, Nil};
+ghost use Rattle.tb_core.specs.Store.{Bind, Clo, Empty, Fix, Nil, contents};
 
 /// The events of small programs, as the definitions of the reference machine compute them.
 pub fn worked_programs()
@@ -71,14 +71,14 @@ pub fn worked_widths()
 
 /// The arithmetic of the primitives at the ends of the fixnums, and the signs of division.
 pub fn worked_primitives()
-    ensures add { effect_of [] Primitive.Add (Fix (pos 536870911) ∷ Fix (pos 1) ∷ []) ≡ Fails Cause.Overflow }
-    ensures sub { effect_of [] Primitive.Sub (Fix (pos 0) ∷ Fix (negsuc 536870911) ∷ []) ≡ Fails Cause.Overflow }
-    ensures least { effect_of [] Primitive.Sub (Fix (negsuc 536870910) ∷ Fix (pos 1) ∷ []) ≡ Gives (Fix (negsuc 536870911)) }
-    ensures quotient { effect_of [] Primitive.Quotient (Fix (negsuc 6) ∷ Fix (pos 2) ∷ []) ≡ Gives (Fix (negsuc 2)) }
-    ensures quotient_overflow { effect_of [] Primitive.Quotient (Fix (negsuc 536870911) ∷ Fix (negsuc 0) ∷ []) ≡ Fails Cause.Overflow }
-    ensures zero_divide { effect_of [] Primitive.Modulo (Fix (pos 1) ∷ Fix (pos 0) ∷ []) ≡ Fails Cause.ZeroDivide }
-    ensures remainder { effect_of [] Primitive.Remainder (Fix (negsuc 6) ∷ Fix (pos 2) ∷ []) ≡ Gives (Fix (negsuc 0)) }
-    ensures modulo { effect_of [] Primitive.Modulo (Fix (negsuc 6) ∷ Fix (pos 2) ∷ []) ≡ Gives (Fix (pos 1)) }
-    ensures modulo_negative { effect_of [] Primitive.Modulo (Fix (pos 7) ∷ Fix (negsuc 1) ∷ []) ≡ Gives (Fix (negsuc 0)) }
-    ensures kind_before_zero { effect_of [] Primitive.Quotient (Nil ∷ Fix (pos 0) ∷ []) ≡ Fails Cause.WrongType }
+    ensures add { effect_of (contents []) Primitive.Add (Fix (pos 536870911) ∷ Fix (pos 1) ∷ []) ≡ Fails Cause.Overflow }
+    ensures sub { effect_of (contents []) Primitive.Sub (Fix (pos 0) ∷ Fix (negsuc 536870911) ∷ []) ≡ Fails Cause.Overflow }
+    ensures least { effect_of (contents []) Primitive.Sub (Fix (negsuc 536870910) ∷ Fix (pos 1) ∷ []) ≡ Gives (Fix (negsuc 536870911)) }
+    ensures quotient { effect_of (contents []) Primitive.Quotient (Fix (negsuc 6) ∷ Fix (pos 2) ∷ []) ≡ Gives (Fix (negsuc 2)) }
+    ensures quotient_overflow { effect_of (contents []) Primitive.Quotient (Fix (negsuc 536870911) ∷ Fix (negsuc 0) ∷ []) ≡ Fails Cause.Overflow }
+    ensures zero_divide { effect_of (contents []) Primitive.Modulo (Fix (pos 1) ∷ Fix (pos 0) ∷ []) ≡ Fails Cause.ZeroDivide }
+    ensures remainder { effect_of (contents []) Primitive.Remainder (Fix (negsuc 6) ∷ Fix (pos 2) ∷ []) ≡ Gives (Fix (negsuc 0)) }
+    ensures modulo { effect_of (contents []) Primitive.Modulo (Fix (negsuc 6) ∷ Fix (pos 2) ∷ []) ≡ Gives (Fix (pos 1)) }
+    ensures modulo_negative { effect_of (contents []) Primitive.Modulo (Fix (pos 7) ∷ Fix (negsuc 1) ∷ []) ≡ Gives (Fix (negsuc 0)) }
+    ensures kind_before_zero { effect_of (contents []) Primitive.Quotient (Nil ∷ Fix (pos 0) ∷ []) ≡ Fails Cause.WrongType }
 {}

@@ -1,15 +1,19 @@
-ghost use Rattle.std.specs.Prelude.{◌≡◌, ◌≤◌, ℕ, ◌+◌, ◌++◌, [], List, Option, Some, None, true, false, slice_get};
+ghost use Rattle.std.specs.Prelude.{◌≡◌, ◌≤◌, ℕ, ◌+◌, ◌++◌, [], List, Option, Some, None, Bool, true, false, IsTrue, slice_get};
 ghost use Rattle.tb_prim.specs.declared.event.Event.{Event};
+ghost use Rattle.tb_prim.specs.declared.primitive.Primitive.{Primitive};
 ghost use Rattle.tb_semantics.specs.Graph.{IsApart, ListsReachable, sum_of};
 ghost use Rattle.tb_semantics.specs.Runs.{EmitsInOrder, IsPrefix, after};
+ghost use Rattle.tb_core.specs.Effects.{effect_of};
 ghost use Rattle.tb_core.specs.Events.{ComesToCall, EndsLast, IsNotLost};
 ghost use Rattle.tb_core.specs.FirstUses.{first_of};
 ghost use Rattle.tb_core.specs.FreeVariables.{inner_free, is_in, lambda_free, without};
+ghost use Rattle.tb_core.specs.Lists.{walked};
 ghost use Rattle.tb_core.specs.OperandOrder.{HasLine, Line, order_of};
+ghost use Rattle.tb_core.specs.Partners.{AlikeEffects, AlikeLists, AlikeValues, AlikeWalks, Partnered, pairs_of};
 ghost use Rattle.tb_core.specs.Reference.{Config, State, Stopped, events_of, reference};
 ghost use Rattle.tb_core.specs.Rules.{Each, EachAll, KeepsRules};
 ghost use Rattle.tb_core.specs.Space.{made, made_of, own_words, size_at, space, store_graph};
-ghost use Rattle.tb_core.specs.Store.{Env, cut, lookup};
+ghost use Rattle.tb_core.specs.Store.{Content, Env, Value, cut, lookup};
 ghost use Rattle.tb_core.specs.Tree.{LambdaTree, ProgramTree};
 
 /// A run that has stopped stays as it is.
@@ -85,4 +89,19 @@ pub fn no_run_is_lost()
 /// What was made only grows along a run.
 pub fn made_only_grows()
     ensures law { (p : ProgramTree) (input : List ℕ) (n k : ℕ) → KeepsRules p → made_of (after (reference p (order_of p) input) n) ≤ made_of (after (reference p (order_of p) input) (n + k)) }
+{}
+
+/// A primitive does the same in two stores whose locations have partners, where what stands at partners is
+/// alike: with operands that are alike it gives values or makes or changes objects that are alike, puts the
+/// same character, takes or peeks at the input, or fails for the same cause. So does the walk of a list. Where
+/// no object and no operand holds the mark of a variable without a value, none comes of it.
+pub fn primitives_in_partnered_stores()
+    ensures effects { (partner : ℕ → ℕ → Bool) (marks : Bool) (st now : ℕ → Content) →
+        Partnered (pairs_of partner) (IsTrue marks) st now → (p : Primitive) (vs ws : List Value) →
+        AlikeLists (pairs_of partner) (IsTrue marks) vs ws →
+        AlikeEffects (pairs_of partner) (IsTrue marks) (effect_of st p vs) (effect_of now p ws) }
+    ensures walks { (partner : ℕ → ℕ → Bool) (marks : Bool) (st now : ℕ → Content) →
+        Partnered (pairs_of partner) (IsTrue marks) st now → (n : ℕ) (v w : Value) →
+        AlikeValues (pairs_of partner) (IsTrue marks) v w →
+        AlikeWalks (pairs_of partner) (IsTrue marks) (walked st n v) (walked now n w) }
 {}

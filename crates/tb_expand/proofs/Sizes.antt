@@ -11,7 +11,8 @@ use Rattle.tb_expand.specs.Scopes.{State, Context, meaning}
 use Rattle.tb_expand.specs.Limits.{how_many_data}
 use Rattle.tb_expand.specs.Shapes.{Sort, Itself, Word, Listed, Nothing, sort, binder_of, binder_at, Formals, formals_of, parameters, elements_of, Pair, pair_with, pair_in, Pairs, and_pair, pairs_of, pairs_in, Parts, QuoteOf, LambdaOf, IfOf, ShortIfOf, SetOf, BeginOf, LetOf, LetrecOf, ApplyOf, Unbuilt, quote_parts, lambda_of, lambda_parts, if_parts, set_of, set_parts, begin_parts, let_of, named_or, let_parts, letrec_of, letrec_parts, apply_parts, parts_of, Defined, Value, Procedure, Definition, value_definition, procedure_definition, procedure_at, definition_by, definition_of, all_fixed, with_rest, binders_of}
 use Rattle.tb_expand.specs.Expressions as expr
-use Rattle.tb_expand.specs.Expressions.{Expression, Wrong, Constantly, Naming, Operands, Sequence, Procedural, Recursion, Build, Choosing, ChoosingOne, AssigningLocal, AssigningGlobal, Using, ApplyingTo, Calling, Head, Operator, Keyword, Primitively, head, word_alone, named, assigned, binding_once, of_parts, misused, primitive_use, by_head, by_sort, expression}
+use Rattle.tb_expand.specs.Expressions.{Expression, Wrong, Constantly, Naming, Operands, Sequence, Procedural, Recursion, Build, Choosing, ChoosingOne, AssigningLocal, AssigningGlobal, Using, ApplyingTo, Calling, Head, Operator, Keyword, Primitively, head, word_alone, named, assigned, binding_once, of_parts, are_fixnums_in, constantly, misused, primitive_use, by_head, by_sort, expression}
+use Rattle.tb_expand.specs.Refusals as refusal
 use Rattle.tb_expand.specs.Bodies as body
 use Rattle.tb_expand.specs.Bodies.{Kind, kind_by, kind_in, kind, begins}
 use Rattle.tb_expand.specs.Texts.{top_kind_in, top_kind}
@@ -193,9 +194,13 @@ assigned_fits n b d (Special f) h = tt
 assigned_fits n b d (Integrated q) h = tt
 assigned_fits n b d (Plain g) h = (omega arith, refl)
 
+constantly_fits : (n : ℕ) (p : Place) (s : datum.Shape) (b : Bool) → Fits n (cond b (Constantly s) (Wrong (refusal.BadForm p)))
+constantly_fits n p s true = tt
+constantly_fits n p s false = tt
+
 of_parts_fits : (m n : ℕ) (st : State) (c : Context) (p : Place) (o : Option Parts) → m + 2 ≤ n → PartsFit m o → Fits n (of_parts st c p o)
 of_parts_fits m n st c p None le h = tt
-of_parts_fits m n st c p (Some (QuoteOf (datum.At q s))) le h = tt
+of_parts_fits m n st c p (Some (QuoteOf (datum.At q s))) le h = constantly_fits n p s (are_fixnums_in s)
 of_parts_fits m n st c p (Some (LambdaOf f b)) le h = once_fits n (bound_twice (parameters f)) (Procedural f b) (omega arith)
 of_parts_fits m n st c p (Some (IfOf a b d)) le h = (omega arith, refl)
 of_parts_fits m n st c p (Some (ShortIfOf a b)) le h = (omega arith, refl)
@@ -233,7 +238,7 @@ pub expression_fits : (st : State) (c : Context) (d : datum.Tree) → Fits (size
 unfolding expression
 expression_fits st c (datum.At p datum.Nil) = tt
 expression_fits st c (datum.At p (datum.Truth b)) = tt
-expression_fits st c (datum.At p (datum.Fixnum n)) = tt
+expression_fits st c (datum.At p (datum.Fixnum n)) = constantly_fits 1 p (datum.Fixnum n) (are_fixnums_in (datum.Fixnum n))
 expression_fits st c (datum.At p (datum.Character n)) = tt
 expression_fits st c (datum.At p (datum.String s)) = tt
 expression_fits st c (datum.At p (datum.Name s alias)) = named_fits 1 p (meaning st c (record { text = s; alias = alias }))

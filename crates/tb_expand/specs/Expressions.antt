@@ -1,8 +1,9 @@
 -- What a datum is as an expression: its form, with its parts, or why it is none. The shape of a form is judged before
 -- any of its parts.
-use Rattle.std.specs.Prelude.{ℕ, ◌+◌, ◌==◌, Bool, true, false, cond, List, [], ◌∷◌, Option, Some, None}
+use Rattle.std.specs.Prelude.{ℕ, ◌+◌, ◌==◌, ◌&&◌, Bool, true, false, cond, List, [], ◌∷◌, Option, Some, None}
 use Rattle.tb_prim.specs.declared.place.Place.{Place}
 use Rattle.tb_prim.specs.declared.primitive.Primitive.{Primitive}
+use Rattle.tb_prim.specs.Fixnums.{is_fixnum}
 use Rattle.tb_prim.specs.Primitives.{arity_of}
 use Rattle.tb_sexp.specs.Tree as datum
 use Rattle.tb_expand.specs.Names.{Name, Binder, bound_twice}
@@ -80,9 +81,32 @@ abbrev pub binding_once : Option Place → Expression → Expression
 binding_once None e = e
 binding_once (Some p) e = Wrong (refusal.Duplicate p)
 
+-- numbers in a quoted datum are fixnums, as in all data that are read
+abbrev mutual
+  pub are_fixnums : datum.Tree → Bool
+  are_fixnums (datum.At p s) = are_fixnums_in s
+
+  pub are_fixnums_in : datum.Shape → Bool
+  are_fixnums_in datum.Nil = true
+  are_fixnums_in (datum.Truth b) = true
+  are_fixnums_in (datum.Fixnum n) = is_fixnum n
+  are_fixnums_in (datum.Character c) = true
+  are_fixnums_in (datum.String s) = true
+  are_fixnums_in (datum.Name s alias) = true
+  are_fixnums_in (datum.Proper ds) = are_fixnums_all ds
+  are_fixnums_in (datum.Dotted ds d) = are_fixnums_all ds && are_fixnums d
+  are_fixnums_in (datum.Vector ds) = are_fixnums_all ds
+
+  pub are_fixnums_all : datum.Trees → Bool
+  are_fixnums_all datum.none = true
+  are_fixnums_all (datum.more d ds) = are_fixnums d && are_fixnums_all ds
+
+abbrev pub constantly : Place → datum.Shape → Expression
+constantly p s = cond (are_fixnums_in s) (Constantly s) (Wrong (refusal.BadForm p))
+
 abbrev pub of_parts : State → Context → Place → Option Parts → Expression
 of_parts st c p None = Wrong (refusal.BadForm p)
-of_parts st c p (Some (QuoteOf (datum.At q s))) = Constantly s
+of_parts st c p (Some (QuoteOf (datum.At q s))) = constantly p s
 of_parts st c p (Some (LambdaOf f b)) = binding_once (bound_twice (parameters f)) (Procedural f b)
 of_parts st c p (Some (IfOf a b d)) = Operands Choosing (datum.more a (datum.more b (datum.more d datum.none)))
 of_parts st c p (Some (ShortIfOf a b)) = Operands ChoosingOne (datum.more a (datum.more b datum.none))
@@ -111,7 +135,7 @@ by_head st c p h ds (Keyword f) = of_parts st c p (parts_of f ds)
 by_head st c p h ds (Primitively q) = primitive_use p h ds q
 
 abbrev pub by_sort : State → Context → Place → datum.Shape → Sort → Expression
-by_sort st c p s Itself = Constantly s
+by_sort st c p s Itself = constantly p s
 by_sort st c p s (Word x) = named p (meaning st c x)
 by_sort st c p s (Listed h ds) = by_head st c p h ds (head st c h)
 by_sort st c p s Nothing = Wrong (refusal.BadForm p)

@@ -1,8 +1,9 @@
--- The words of the language: the names of forms and of integrated primitives, and what a text means where nothing
+-- The words of the language: the names of forms, and what a text means where nothing
 -- binds it.
-use Rattle.std.specs.Prelude.{ℕ, ◌==◌, ◌||◌, Bool, true, false, cond, List, [], ◌∷◌, Option, Some, None, codes, bytes_eq}
+use Rattle.std.specs.Prelude.{ℕ, Bool, true, false, cond, List, [], ◌∷◌, Option, Some, None, codes, bytes_eq}
 use Rattle.tb_prim.specs.declared.primitive.Primitive.{Primitive}
-use Rattle.tb_prim.specs.declared.primitive.Primitive.TheVariants.{Cons, Car, Cdr, SetCar, SetCdr, IsPair, IsNull, Not, IsBoolean, IsSymbol, IsChar, IsString, IsVector, IsProcedure, IsInteger, IsEof, Eq, Add, Sub, Mul, Quotient, Remainder, Modulo, NumEq, Less, Greater, LessEq, GreaterEq, CharToInt, IntToChar, MakeVector, VectorRef, VectorSet, VectorLength, MakeString, StringRef, StringSet, StringLength, SymbolLength, SymbolRef, ReadChar, PeekChar, WriteChar, Unspecified}
+use Rattle.tb_prim.specs.declared.primitive.Primitive.TheVariants.{Add, Sub, Mul, NumEq, Less, Greater, LessEq, GreaterEq}
+use Rattle.tb_prim.specs.Names.{prim_named}
 use Rattle.tb_expand.specs.Trees.{Var}
 
 -- the forms (R5RS 4 and 5); those of the last kind are not built yet
@@ -29,7 +30,7 @@ entry s x = record { text = s; stands_for = x }
 -- what a text stands for, by its first entry
 abbrev pub find : {X : Type 0} → List (Entry X) → List ℕ → Option X
 find [] s = None
-find (e ∷ es) s = cond (bytes_eq e.text s) (Some e.stands_for) (find es s)
+find (e ∷ es) s = cond (bytes_eq s e.text) (Some e.stands_for) (find es s)
 
 unfoldable pub forms : List (Entry Form)
 forms =
@@ -54,60 +55,6 @@ forms =
     entry (codes "do") Later ∷
     entry (codes "quasiquote") Later ∷ []
 
-unfoldable pub integrated : List (Entry Primitive)
-integrated =
-    entry (codes "cons") Cons ∷
-    entry (codes "car") Car ∷
-    entry (codes "cdr") Cdr ∷
-    entry (codes "set-car!") SetCar ∷
-    entry (codes "set-cdr!") SetCdr ∷
-    entry (codes "pair?") IsPair ∷
-    entry (codes "null?") IsNull ∷
-    entry (codes "not") Not ∷
-    entry (codes "boolean?") IsBoolean ∷
-    entry (codes "symbol?") IsSymbol ∷
-    entry (codes "char?") IsChar ∷
-    entry (codes "string?") IsString ∷
-    entry (codes "vector?") IsVector ∷
-    entry (codes "procedure?") IsProcedure ∷
-    entry (codes "integer?") IsInteger ∷
-    entry (codes "number?") IsInteger ∷
-    entry (codes "eof-object?") IsEof ∷
-    entry (codes "eq?") Eq ∷
-    entry (codes "eqv?") Eq ∷
-    entry (codes "+") Add ∷
-    entry (codes "-") Sub ∷
-    entry (codes "*") Mul ∷
-    entry (codes "quotient") Quotient ∷
-    entry (codes "remainder") Remainder ∷
-    entry (codes "modulo") Modulo ∷
-    entry (codes "=") NumEq ∷
-    entry (codes "<") Less ∷
-    entry (codes ">") Greater ∷
-    entry (codes "<=") LessEq ∷
-    entry (codes ">=") GreaterEq ∷
-    entry (codes "char->integer") CharToInt ∷
-    entry (codes "integer->char") IntToChar ∷
-    entry (codes "%make-vector") MakeVector ∷
-    entry (codes "vector-ref") VectorRef ∷
-    entry (codes "vector-set!") VectorSet ∷
-    entry (codes "vector-length") VectorLength ∷
-    entry (codes "%make-string") MakeString ∷
-    entry (codes "string-ref") StringRef ∷
-    entry (codes "string-set!") StringSet ∷
-    entry (codes "string-length") StringLength ∷
-    entry (codes "%symbol-length") SymbolLength ∷
-    entry (codes "%symbol-ref") SymbolRef ∷
-    entry (codes "read-char") ReadChar ∷
-    entry (codes "peek-char") PeekChar ∷
-    entry (codes "write-char") WriteChar ∷
-    entry (codes "%unspecified") Unspecified ∷ []
-
--- a name that begins with `%` (37), which the library alone sees
-abbrev pub is_inner : List ℕ → Bool
-is_inner [] = false
-is_inner (b ∷ bs) = b == 37
-
 -- what a name means
 pub data Meaning : Type 0 where
   Variable : Var → Meaning
@@ -119,17 +66,13 @@ abbrev pub primitive_meaning : Option Primitive → List ℕ → Meaning
 primitive_meaning None s = Plain s
 primitive_meaning (Some p) s = Integrated p
 
-abbrev pub form_meaning : Option Form → Bool → List ℕ → Meaning
-form_meaning None hidden s = cond hidden (Plain s) (primitive_meaning (find integrated s) s)
-form_meaning (Some f) hidden s = Special f
-
-abbrev pub is_hidden : Bool → List ℕ → Bool
-is_hidden true s = false
-is_hidden false s = is_inner s
+abbrev pub form_meaning : Option Form → Option Primitive → List ℕ → Meaning
+form_meaning None q s = primitive_meaning q s
+form_meaning (Some f) q s = Special f
 
 -- the form, the integrated primitive or the global of a text, in the library or in a program
 unfoldable pub word_of : Bool → List ℕ → Meaning
-word_of library s = form_meaning (find forms s) (is_hidden library s) s
+word_of library s = form_meaning (find forms s) (prim_named s library) s
 
 -- `+`, `-`, `*` and the comparisons, which R5RS lets take other numbers of operands than two
 abbrev pub is_of_many : Primitive → Bool

@@ -8,16 +8,16 @@ use Rattle.tb_prim.specs.declared.primitive.Primitive.{Primitive}
 use Rattle.tb_prim.specs.declared.primitive.Primitive.TheVariants.{WriteChar, Add, Sub, NumEq, Less}
 use Rattle.tb_prim.specs.Primitives.{arity_of}
 use Rattle.tb_core.specs.Tree.{Tree, Node, Form, If, PrimUse, Trees, none, more, count, ProgramTree}
-use Rattle.tb_core.specs.Effects.{is_fixnum}
+use Rattle.tb_prim.specs.Fixnums.{is_fixnum}
 use Rattle.tb_core.specs.FreeVariables.{is_in, is_assigned, targets_all}
 use Rattle.tb_core.specs.OperandOrder.{has_order, operands, line_at, line_of, order_of, HasLine}
 use Rattle.tb_core.specs.Reference.{Context}
 use Rattle.tb_core.specs.Rules.{Each, EachAll, KeepsRules}
 use Rattle.tb_core.specs.Store.{Truth}
 use Rattle.tb_core.specs.Width.{nodes, nodes_all}
-use Rattle.tb_macm.specs.declared.word.Word.{Word}
-use Rattle.tb_macm.specs.declared.word.Word.TheVariants as W
-use Rattle.tb_macm.specs.Words.{IsImmediate, imm_bits, imm_word}
+use Rattle.tb_small_mac.specs.declared.word.Word.{Word}
+use Rattle.tb_small_mac.specs.declared.word.Word.TheVariants as W
+use Rattle.tb_small_mac.specs.Words.{IsImmediate, imm_bits, imm_word}
 use Rattle.tb_sexp.specs.Tree as datum
 use Rattle.tb_small.specs.Built.{word_of, IsBinary, Built, built_quote, built_local, built_if, built_let, built_seq, built_put, built_binary, BuiltAll, built_none, built_more}
 use Rattle.tb_small.specs.Compiled.{IsSmall, small_context}

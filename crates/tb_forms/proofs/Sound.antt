@@ -10,7 +10,7 @@ use Rattle.tb_prim.specs.declared.place.Place.{Place}
 use Rattle.tb_core.specs.Tree.{Tree, Node, Form, Local, If, Let, Seq, PrimUse, Trees, none, more, count}
 use Rattle.tb_core.specs.Width.{nodes, nodes_all, nodes_form}
 use Rattle.tb_core.specs.Rules.{bound_form}
-use Rattle.tb_core.specs.Effects.{is_fixnum}
+use Rattle.tb_prim.specs.Fixnums.{is_fixnum}
 use Rattle.tb_sexp.specs.Tree as datum
 use Rattle.tb_forms.specs.Forms.{IsForm, a_truth, a_fixnum, a_character, a_variable, a_let, an_if, a_sequence, a_use, AreForms, no_forms, one_form, AreBindings, no_bindings, one_binding, IsPrimitive, write_char, plus, minus, equals, less, IsListOf, empty, elements, headed, binders, binders_all}
 use Rattle.tb_forms.specs.Heads.{head_of, head_of_name}

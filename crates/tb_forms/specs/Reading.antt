@@ -4,7 +4,7 @@ use Rattle.std.specs.Prelude.{◌≡◌, ℕ, ◌+◌, ◌==◌, nat_lt, ◌&&�
 use Rattle.tb_prim.specs.declared.constant.Const.{Const}
 use Rattle.tb_prim.specs.Primitives.{arity_of}
 use Rattle.tb_core.specs.Tree.{Tree, Node, Form, Quote, Local, If, Let, Seq, PrimUse, Trees, none, more, count}
-use Rattle.tb_core.specs.Effects.{is_fixnum}
+use Rattle.tb_prim.specs.Fixnums.{is_fixnum}
 use Rattle.tb_sexp.specs.Tree as datum
 use Rattle.tb_forms.specs.declared.head.Head.{Head}
 use Rattle.tb_forms.specs.declared.head.Head.TheVariants.{Binding, Choice, Sequence, Use, Unknown}

@@ -1,5 +1,4 @@
 ghost use Rattle.std.specs.Prelude.{◌≡◌, ◌+◌, ◌*◌, ◌≤◌, ◌<◌, ◌^◌, length, map, IfOk};
-ghost use Rattle.tb_core.specs.Effects.{is_fixnum as is_fixnum_in};
 ghost use Rattle.tb_core.specs.Tree.{Let};
 ghost use Rattle.tb_core.specs.View.{view, view_core, trees};
 ghost use Rattle.tb_forms.specs.Bounds.{scope_in, texts};
@@ -17,15 +16,8 @@ use super::scope::{Bound, differ, find_number, inner_scope, variable_numbers};
 use sqlite_items::Boxed;
 use std::alloc::Global;
 use tb_core::{Core, Expr, VarId};
-use tb_prim::{Const, NoMemory, Row};
+use tb_prim::{Const, NoMemory, Row, is_fixnum};
 use tb_sexp::{Datum, Node};
-
-/// Whether the number is a fixnum.
-fn is_fixnum(n: i32) -> bool
-    ensures { result ≡ is_fixnum_in n }
-{
-    -0x2000_0000 <= n && n < 0x2000_0000
-}
 
 /// The use of the variable of this name.
 fn variable_use(counts: Counts, scope: &[Bound], name: &[u8]) -> Result<Core, Unread>
@@ -40,7 +32,7 @@ fn variable_use(counts: Counts, scope: &[Bound], name: &[u8]) -> Result<Core, Un
 fn fixnum(counts: Counts, n: i32) -> Result<Core, Unread>
     ensures { Reads view_core (reading.reading_shape 1000 no_names counts.nodes counts.variables (Fixnum n)) result counts }
 {
-    if is_fixnum(n) {
+    if is_fixnum(n as i64) {
         Ok(Core::Quote(Const::Fix(n)))
     } else {
         Err(Unread::NotBuilt)

@@ -1,2 +1,4 @@
 pub mod formers
 pub mod Primitives
+pub mod Names
+pub mod Fixnums

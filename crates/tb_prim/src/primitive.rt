@@ -1,4 +1,5 @@
 ghost use Rattle.std.specs.Prelude.{◌≡◌};
+ghost use Rattle.tb_prim.specs.Primitives as table;
 ghost use Rattle.tb_prim.specs.Primitives.{arity_of};
 
 /// The primitive procedures, in the order of their numbers from 0.
@@ -97,4 +98,11 @@ pub fn arity(prim: Primitive) -> u8
         | Primitive::SymbolRef => 2,
         Primitive::VectorSet | Primitive::StringSet => 3,
     }
+}
+
+/// The number of the primitive in code and images, 0 to 43.
+pub fn number_of(prim: Primitive) -> u8
+    ensures { result ≡ table.number_of prim }
+{
+    prim as u8
 }

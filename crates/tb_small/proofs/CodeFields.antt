@@ -8,9 +8,10 @@ use Rattle.tb_core.specs.Tree.{Tree, Node, Trees, none, more, count}
 use Rattle.tb_core.specs.OperandOrder.{is_simple}
 use Rattle.tb_core.specs.Reference.{Context}
 use Rattle.tb_core.specs.Width.{nodes, nodes_all}
-use Rattle.tb_macm.specs.declared.code.Instr.{Instr}
-use Rattle.tb_macm.specs.declared.code.Instr.TheVariants.{Load, Store, Jump, Brf, Imm, Op1, Op2}
-use Rattle.tb_macm.specs.Rules.{InstrOk, arity_at}
+use Rattle.tb_small_mac.specs.declared.code.Instr.{Instr}
+use Rattle.tb_small_mac.specs.declared.code.Instr.TheVariants.{Load, Store, Jump, Brf, Imm, Op1, Op2}
+use Rattle.tb_prim.specs.Primitives.{arity_at}
+use Rattle.tb_small_mac.specs.Rules.{InstrOk}
 use Rattle.tb_small.specs.Generate.{Slots, no_slots, in_slot, slot_of, slots_from, never, same, code, codes, chosen, prim_code, number_2, size, all_size, operand_size, chosen_size, result}
 use Rattle.tb_small.specs.Built.{IsBinary, Built, BuiltAll, built_quote, built_local, built_if, built_let, built_seq, built_put, built_binary, built_none, built_more}
 use Rattle.tb_small.proofs.CodeBounds.{count_by_nodes}

@@ -6,10 +6,10 @@ use Rattle.tb_prim.specs.declared.primitive.Primitive.TheVariants.{WriteChar, Ad
 use Rattle.tb_core.specs.Tree.{Tree, Node, If, Trees, none, more, count}
 use Rattle.tb_core.specs.OperandOrder.{is_simple}
 use Rattle.tb_core.specs.Reference.{Context}
-use Rattle.tb_macm.specs.declared.code.Instr.{Instr}
-use Rattle.tb_macm.specs.declared.code.Instr.TheVariants.{Store, Jump, Brf}
-use Rattle.tb_macm.specs.declared.code.PlaceEntry.{PlaceEntry}
-use Rattle.tb_macm.specs.Rules.{can_fail, instr_can_fail, failing_from}
+use Rattle.tb_small_mac.specs.declared.code.Instr.{Instr}
+use Rattle.tb_small_mac.specs.declared.code.Instr.TheVariants.{Store, Jump, Brf}
+use Rattle.tb_small_mac.specs.declared.code.PlaceEntry.{PlaceEntry}
+use Rattle.tb_small_mac.specs.Rules.{can_fail, instr_can_fail, failing_from}
 use Rattle.tb_small.specs.Generate.{Slots, slots_from, never, same, code, codes, chosen, prim_code, number_2, places, all_places, chosen_places, size, form_size, operand_size, chosen_size, result}
 use Rattle.tb_small.specs.Built.{IsBinary, Built, BuiltAll, built_quote, built_local, built_if, built_let, built_seq, built_put, built_binary, built_none, built_more}
 use Rattle.tb_small.proofs.Sizes.{HasSize, HaveSizes, operand_split, length_code, length_chosen}

@@ -3,8 +3,8 @@ use Rattle.std.proofs.Common.{◌≡◌, ℕ, ◌+◌, ◌*◌, ◌≤◌, [], �
 use Rattle.std.proofs.lemmas.List.Elements.{All-nil, All-cons, All-append}
 use Rattle.tb_core.specs.Tree.{Trees}
 use Rattle.tb_core.specs.Width.{nodes_all, square_sum}
-use Rattle.tb_macm.specs.declared.code.Instr.TheVariants.{Save, End}
-use Rattle.tb_macm.specs.Rules.{InstrOk}
+use Rattle.tb_small_mac.specs.declared.code.Instr.TheVariants.{Save, End}
+use Rattle.tb_small_mac.specs.Rules.{InstrOk}
 use Rattle.tb_small.specs.CodeRules.{CodeKeepsRules}
 use Rattle.tb_small.specs.Compiled.{IsSmall}
 use Rattle.tb_small.specs.Generate.{no_slots, codes, all_size, all_places, program_of, program_code, program_places}

@@ -6,9 +6,9 @@ use Rattle.tb_prim.specs.declared.constant.Const.{Const}
 use Rattle.tb_core.specs.Tree.{Tree, Trees}
 use Rattle.tb_core.specs.Store.{value_of}
 use Rattle.tb_core.specs.Reference.{Context}
-use Rattle.tb_macm.specs.declared.word.Word.{Word}
-use Rattle.tb_macm.specs.declared.word.Word.TheVariants as W
-use Rattle.tb_macm.specs.Words.{imm_word, fixnum_of}
+use Rattle.tb_small_mac.specs.declared.word.Word.{Word}
+use Rattle.tb_small_mac.specs.declared.word.Word.TheVariants as W
+use Rattle.tb_small_mac.specs.Words.{imm_word, fixnum_of}
 use Rattle.tb_small.specs.Generate.{bits_of}
 use Rattle.tb_small.specs.Ranges.{HasBits}
 use Rattle.tb_small.specs.Built.{IsPlain, word_of, Built, BuiltAll, built_quote, built_local, built_if, built_let, built_seq, built_put, built_binary, built_none, built_more}

@@ -6,9 +6,9 @@ use Rattle.tb_prim.specs.declared.place.Place.{Place}
 use Rattle.tb_prim.specs.declared.primitive.Primitive.{Primitive}
 use Rattle.tb_core.specs.Tree.{Tree, If, PrimUse, Trees, more, count}
 use Rattle.tb_core.specs.OperandOrder.{is_simple}
-use Rattle.tb_macm.specs.declared.code.Instr.{Instr}
-use Rattle.tb_macm.specs.declared.code.Instr.TheVariants.{Jump, Brf, Store}
-use Rattle.tb_macm.specs.declared.code.PlaceEntry.{PlaceEntry}
+use Rattle.tb_small_mac.specs.declared.code.Instr.{Instr}
+use Rattle.tb_small_mac.specs.declared.code.Instr.TheVariants.{Jump, Brf, Store}
+use Rattle.tb_small_mac.specs.declared.code.PlaceEntry.{PlaceEntry}
 use Rattle.tb_small.specs.Generate.{Slots, never, same, code, form_code, chosen, places, form_places, chosen_places, size, form_size, operand_size, chosen_size, prim_size, result}
 use Rattle.tb_small.proofs.CodeBounds.{count_by_nodes}
 use Rattle.tb_small.specs.Parts.{operands_places, if_places, chosen_code, chosen_length, places_if_chosen}

@@ -5,11 +5,12 @@ use Rattle.std.proofs.lemmas.Bool.Decides.{nat_tests}
 use Rattle.tb_prim.specs.declared.event.Cause.{Cause}
 use Rattle.tb_prim.specs.declared.primitive.Primitive.{Primitive}
 use Rattle.tb_prim.specs.declared.primitive.Primitive.TheVariants.{WriteChar, Add, Sub, NumEq, Less}
-use Rattle.tb_core.specs.Store.{Value, Fix, Char, Truth, Nil, Unspecified, Undefined, EndObject, At}
-use Rattle.tb_core.specs.Effects.{Effect, Gives, Puts, Fails, is_false, effect_1, effect_2, with_fix, gives_fix, gives_truth, is_fixnum, same_int}
-use Rattle.tb_macm.specs.declared.primitive.Answer.{Answer}
-use Rattle.tb_macm.specs.declared.primitive.Answer.TheVariants as A
-use Rattle.tb_macm.specs.MacStep.{on_fixnum, fixnum, boolean, primitive_1, primitive_2, is_false as is_false_word}
+use Rattle.tb_core.specs.Store.{Value, Fix, Char, Truth, Nil, Unspecified, Undefined, EndObject, At, contents}
+use Rattle.tb_prim.specs.Fixnums.{is_fixnum}
+use Rattle.tb_core.specs.Effects.{Effect, Gives, Puts, Fails, is_false, effect_1, effect_2, with_fix, gives_fix, gives_truth, same_int}
+use Rattle.tb_small_mac.specs.declared.primitive.Answer.{Answer}
+use Rattle.tb_small_mac.specs.declared.primitive.Answer.TheVariants as A
+use Rattle.tb_small_mac.specs.MacStep.{on_fixnum, fixnum, boolean, primitive_1, primitive_2, is_false as is_false_word}
 use Rattle.tb_small.specs.Generate.{number_2}
 use Rattle.tb_small.specs.Built.{IsBinary, word_of}
 
@@ -32,7 +33,7 @@ Agrees (A.Puts b) (Puts c) = b ≡ c
 Agrees (A.Fails c) (Fails d) = c ≡ d
 Agrees _ _ = ⊥
 
-pub agree_put : (v : Value) → Agrees (primitive_1 42 (word_of v)) (effect_1 [] WriteChar v)
+pub agree_put : (v : Value) → Agrees (primitive_1 42 (word_of v)) (effect_1 (contents []) WriteChar v)
 agree_put (Fix n) = refl
 agree_put (Char c) = refl
 agree_put (Truth true) = refl
@@ -78,7 +79,7 @@ same_equal (negsuc a) (negsuc b) = grind (arith, nat_tests)
 agree_equal : (i j : ℤ) → Agrees (boolean (int_le i j && int_le j i)) (gives_truth (same_int i j))
 agree_equal i j = subst (λ b. Agrees (boolean (int_le i j && int_le j i)) (gives_truth b)) (sym (same_equal i j)) (agree_truth (int_le i j && int_le j i))
 
-pub agree_binary : (pr : Primitive) → IsBinary pr → (u v : Value) → Agrees (primitive_2 (number_2 pr) (word_of u) (word_of v)) (effect_2 [] pr u v)
+pub agree_binary : (pr : Primitive) → IsBinary pr → (u v : Value) → Agrees (primitive_2 (number_2 pr) (word_of u) (word_of v)) (effect_2 (contents []) pr u v)
 agree_binary Add b u v = agree_fix u _ _ (λ i. agree_fix v _ _ (λ j. agree_fixnum (i +ℤ j)))
 agree_binary Sub b u v = agree_fix u _ _ (λ i. agree_fix v _ _ (λ j. agree_fixnum (i -ℤ j)))
 agree_binary NumEq b u v = agree_fix u _ _ (λ i. agree_fix v _ _ (λ j. agree_equal i j))

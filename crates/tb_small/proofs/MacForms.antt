@@ -10,17 +10,17 @@ use Rattle.tb_prim.specs.declared.primitive.Primitive.TheVariants.{WriteChar}
 use Rattle.tb_core.specs.Tree.{Tree, Node, Quote, Local, If, Let, Seq, PrimUse, Trees, none, more, count}
 use Rattle.tb_core.specs.FreeVariables.{is_in, free, free_all, without}
 use Rattle.tb_core.specs.OperandOrder.{line_of}
-use Rattle.tb_core.specs.Store.{Value, value_of}
+use Rattle.tb_core.specs.Store.{Value, value_of, contents}
 use Rattle.tb_core.specs.Effects.{is_false, effect_of}
 use Rattle.tb_core.specs.Width.{nodes_all}
 use Rattle.tb_core.specs.Reference.{Context}
 use Rattle.tb_core.proofs.Members.{in-left, in-right, in-tested, tested-in, in-without}
-use Rattle.tb_macm.specs.declared.code.Instr.{Instr}
-use Rattle.tb_macm.specs.declared.code.Instr.TheVariants.{Load, Jump, Brf, Imm, Op1, Op2}
-use Rattle.tb_macm.specs.declared.code.PlaceEntry.{PlaceEntry}
-use Rattle.tb_macm.specs.Words.{on_some, imm_word}
-use Rattle.tb_macm.specs.MacStep.{Mac, stuck, goes, set_register, jump_to, finish, place_of, primitive_1, primitive_2, is_false as is_false_word}
-use Rattle.tb_macm.specs.MacEvents.{Going, next, next_state}
+use Rattle.tb_small_mac.specs.declared.code.Instr.{Instr}
+use Rattle.tb_small_mac.specs.declared.code.Instr.TheVariants.{Load, Jump, Brf, Imm, Op1, Op2}
+use Rattle.tb_small_mac.specs.declared.code.PlaceEntry.{PlaceEntry}
+use Rattle.tb_small_mac.specs.Words.{on_some, imm_word}
+use Rattle.tb_small_mac.specs.MacStep.{Mac, stuck, goes, set_register, jump_to, finish, place_of, primitive_1, primitive_2, is_false as is_false_word}
+use Rattle.tb_small_mac.specs.MacEvents.{Going, next, next_state}
 use Rattle.tb_small.specs.Generate.{Slots, in_slot, slot_of, slots_from, never, code, codes, chosen, prim_code, places, all_places, chosen_places, size, form_size, all_size, operand_size, chosen_size, prim_size, bits_of, number_2, result}
 use Rattle.tb_small.specs.Meaning.{Values, has_value, value_in, values_from, Meaning, all_then_all, of_variable, of_effect, by_number, meaning, sequence_meaning, chosen_meanings}
 use Rattle.tb_small.specs.Built.{IsBinary, word_of, HasSlot, HasSlots, HasFrame}
@@ -218,7 +218,7 @@ module _ (C : List Instr) (P : List PlaceEntry) (x : Context) where
   -- the use of a primitive, where the operands are in their slots
   abbrev UseReady : Primitive → Trees → Type 0
   UseReady pr es = (p : Place) (vs : List Value) (d n : ℕ) (m : Mac) (evs : List Event) (at : ℕ) → length vs ≡ count es → InSlots m d vs → HasFrame m n → d + count es ≤ n → m.pc ≡ at → length m.registers ≡ 17 →
-      Stands C at (prim_code pr (count es) d) → place_of P (at + (prim_size (count es) - 1)) ≡ Some p → Runs C P d m evs (at + prim_size (count es)) (prim_size (count es)) (of_effect p (effect_of [] pr vs))
+      Stands C at (prim_code pr (count es) d) → place_of P (at + (prim_size (count es) - 1)) ≡ Some p → Runs C P d m evs (at + prim_size (count es)) (prim_size (count es)) (of_effect p (effect_of (contents []) pr vs))
 
   use_ready : (p : Place) (q : ℕ) (pr : Primitive) (es : Trees) → HaveSizes es → AllReady C P x es → UseReady pr es → Ready C P x (Node p q (PrimUse pr es))
   use_ready p q pr es long b u r s d n m evs at h f room there wide stands found =
@@ -239,10 +239,10 @@ module _ (C : List Instr) (P : List PlaceEntry) (x : Context) where
       let found3 : place_of P (to + (prim_size (count es) - 1)) ≡ Some p = subst (λ k. place_of P k ≡ Some p) own_is found2.0 in
       let target_is : to + prim_size (count es) ≡ at + (operand_size es + prim_size (count es)) = omega arith in
       runs_after C P d m evs to (at + (operand_size es + prim_size (count es))) (operand_size es) (prim_size (count es)) (operand_size es + prim_size (count es)) (line_of never es)
-      (all_then_all (chosen_meanings false r es []) (λ vs. chosen_meanings true r es vs)) (λ vs. of_effect p (effect_of [] pr (by_number es vs))) (omega arith)
+      (all_then_all (chosen_meanings false r es []) (λ vs. chosen_meanings true r es vs)) (λ vs. of_effect p (effect_of (contents []) pr (by_number es vs))) (omega arith)
       (both_passes es b long r s d n m evs at is (own ∷ []) h f (omega arith) there wide stands found)
       (λ vs now ev a.
-      subst (λ t. Runs C P d now ev t (prim_size (count es)) (of_effect p (effect_of [] pr (by_number es vs)))) target_is
+      subst (λ t. Runs C P d now ev t (prim_size (count es)) (of_effect p (effect_of (contents []) pr (by_number es vs)))) target_is
       (u p (by_number es vs) d n now ev to (all_counted now d es vs a.stored) (all_stored now d es vs a.stored) (frame_kept d n m now a.keeps f) (omega arith) a.there a.wide behind2 found3))
 
   put_use : (e : Tree) → UseReady WriteChar (more e none)
@@ -254,9 +254,9 @@ module _ (C : List Instr) (P : List PlaceEntry) (x : Context) where
       let there1 : m1.pc ≡ at + 1 = ap (λ k. k + 1) there in
       let stands1 : slice_get C (at + 1) ≡ Some (Op1 result 1 42) = (let e1 : suc at ≡ at + 1 = omega arith in subst (λ k. slice_get C k ≡ Some (Op1 result 1 42)) e1 (stands.1).0) in
       let target_is : at + 1 + 1 ≡ at + 2 = omega arith in
-      runs_step C P d m m1 evs (at + 2) 1 (of_effect p (effect_of [] WriteChar (v ∷ []))) (keeps_memory d m m1 refl refl refl) (loads C P m evs at n 1 d (word_of v) there f (omega arith) st.0 stands.0)
-      (subst (λ t. Runs C P d m1 evs t 1 (of_effect p (effect_of [] WriteChar (v ∷ [])))) target_is
-      (finishes C P d m1 evs (at + 1) p (primitive_1 42 (word_of v)) (effect_of [] WriteChar (v ∷ [])) there1 (length-slice_set m.registers 1 (word_of v) ∙ wide) found (agree_put v)
+      runs_step C P d m m1 evs (at + 2) 1 (of_effect p (effect_of (contents []) WriteChar (v ∷ []))) (keeps_memory d m m1 refl refl refl) (loads C P m evs at n 1 d (word_of v) there f (omega arith) st.0 stands.0)
+      (subst (λ t. Runs C P d m1 evs t 1 (of_effect p (effect_of (contents []) WriteChar (v ∷ [])))) target_is
+      (finishes C P d m1 evs (at + 1) p (primitive_1 42 (word_of v)) (effect_of (contents []) WriteChar (v ∷ [])) there1 (length-slice_set m.registers 1 (word_of v) ∙ wide) found (agree_put v)
       (performs C P m1 evs (at + 1) (Op1 result 1 42) there1 stands1
       ∙ ap (λ o. next_state m1 evs (on_some o (stuck m1) (λ u. finish P result m1 (primitive_1 42 u)))) one)))
 
@@ -281,12 +281,12 @@ module _ (C : List Instr) (P : List PlaceEntry) (x : Context) where
       let stands2 : slice_get C (at + 2) ≡ Some (Op2 result 1 2 (number_2 pr)) = subst (λ k. slice_get C k ≡ Some (Op2 result 1 2 (number_2 pr))) behind_is ((stands.1).1).0 in
       let word2 : slice_get m1.memory (m1.stack_pointer + 2 + (d + 1)) ≡ Some (word_of w) = subst (λ k. slice_get m.memory (m.stack_pointer + 2 + k) ≡ Some (word_of w)) slot_is (st.1).0 in
       let target_is : at + 2 + 1 ≡ at + 3 = omega arith in
-      let r : Meaning = of_effect p (effect_of [] pr (v ∷ w ∷ [])) in
+      let r : Meaning = of_effect p (effect_of (contents []) pr (v ∷ w ∷ [])) in
       runs_step C P d m m1 evs (at + 3) 2 r (keeps_memory d m m1 refl refl refl) (loads C P m evs at n 1 d (word_of v) there f (omega arith) st.0 stands.0)
       (runs_step C P d m1 m2 evs (at + 3) 1 r (keeps_memory d m1 m2 refl refl refl)
       (loads C P m1 evs (at + 1) n 2 (d + 1) (word_of w) there1 (frame_kept d n m m1 (keeps_memory d m m1 refl refl refl) f) (omega arith) word2 stands1)
       (subst (λ t. Runs C P d m2 evs t 1 r) target_is
-      (finishes C P d m2 evs (at + 2) p (primitive_2 (number_2 pr) (word_of v) (word_of w)) (effect_of [] pr (v ∷ w ∷ [])) there2 wide2 found (agree_binary pr two v w)
+      (finishes C P d m2 evs (at + 2) p (primitive_2 (number_2 pr) (word_of v) (word_of w)) (effect_of (contents []) pr (v ∷ w ∷ [])) there2 wide2 found (agree_binary pr two v w)
       (performs C P m2 evs (at + 2) (Op2 result 1 2 (number_2 pr)) there2 stands2
       ∙ ap (λ o. next_state m2 evs (on_some o (stuck m2) (λ u. on_some (slice_get m2.registers 2) (stuck m2) (λ t. finish P result m2 (primitive_2 (number_2 pr) u t))))) first2
       ∙ ap (λ o. next_state m2 evs (on_some o (stuck m2) (λ t. finish P result m2 (primitive_2 (number_2 pr) (word_of v) t)))) second))))

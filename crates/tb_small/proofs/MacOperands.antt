@@ -13,12 +13,12 @@ use Rattle.tb_core.specs.Width.{nodes, nodes_all}
 use Rattle.tb_core.specs.Reference.{Context, value_for, prepend, arranged}
 use Rattle.tb_core.proofs.Members.{in-left, in-right, in-either, in-tested, tested-in}
 use Rattle.tb_core.proofs.Lines.{line-all, line-length, arranged-length}
-use Rattle.tb_macm.specs.declared.word.Word.{Word}
-use Rattle.tb_macm.specs.declared.code.Instr.{Instr}
-use Rattle.tb_macm.specs.declared.code.Instr.TheVariants.{Store}
-use Rattle.tb_macm.specs.declared.code.PlaceEntry.{PlaceEntry}
-use Rattle.tb_macm.specs.MacStep.{Mac, set_word}
-use Rattle.tb_macm.specs.MacEvents.{Going, Halted, next}
+use Rattle.tb_small_mac.specs.declared.word.Word.{Word}
+use Rattle.tb_small_mac.specs.declared.code.Instr.{Instr}
+use Rattle.tb_small_mac.specs.declared.code.Instr.TheVariants.{Store}
+use Rattle.tb_small_mac.specs.declared.code.PlaceEntry.{PlaceEntry}
+use Rattle.tb_small_mac.specs.MacStep.{Mac, set_word}
+use Rattle.tb_small_mac.specs.MacEvents.{Going, Halted, next}
 use Rattle.tb_small.specs.Generate.{Slots, never, same, code, chosen, places, chosen_places, size, chosen_size, result}
 use Rattle.tb_small.specs.Meaning.{Values, Meaning, Gave, Failed, Meanings, GaveAll, FailedAt, before_all, then_all, all_then, all_then_all, by_number, meaning, chosen_meanings}
 use Rattle.tb_small.specs.Built.{word_of, HasSlots, HasFrame}

@@ -10,13 +10,13 @@ use Rattle.tb_core.specs.Tree.{Trees}
 use Rattle.tb_core.specs.FreeVariables.{is_in, free, free_all}
 use Rattle.tb_core.specs.Width.{nodes_all}
 use Rattle.tb_core.specs.Reference.{Context}
-use Rattle.tb_macm.specs.declared.word.Word.{Word}
-use Rattle.tb_macm.specs.declared.word.Word.TheVariants.{Fix}
-use Rattle.tb_macm.specs.declared.code.Instr.{Instr}
-use Rattle.tb_macm.specs.declared.code.Instr.TheVariants.{Save, End}
-use Rattle.tb_macm.specs.declared.code.PlaceEntry.{PlaceEntry}
-use Rattle.tb_macm.specs.MacStep.{Mac, Stopped, goes, push_frame}
-use Rattle.tb_macm.specs.MacEvents.{Going, Halted, next, next_state, events_of, mac_start, mac_machine}
+use Rattle.tb_small_mac.specs.declared.word.Word.{Word}
+use Rattle.tb_small_mac.specs.declared.word.Word.TheVariants.{Fix}
+use Rattle.tb_small_mac.specs.declared.code.Instr.{Instr}
+use Rattle.tb_small_mac.specs.declared.code.Instr.TheVariants.{Save, End}
+use Rattle.tb_small_mac.specs.declared.code.PlaceEntry.{PlaceEntry}
+use Rattle.tb_small_mac.specs.MacStep.{Mac, Stopped, goes, push_frame}
+use Rattle.tb_small_mac.specs.MacEvents.{Going, Halted, next, next_state, events_of, mac_start, mac_machine}
 use Rattle.tb_small.specs.Generate.{no_slots, code, codes, places, all_places, size, all_size, program_code, program_places}
 use Rattle.tb_small.specs.Meaning.{no_values, Meaning, Gave, Failed, meaning}
 use Rattle.tb_small.specs.Built.{BuiltAll, built_none, built_more, HasSlots, HasFrame}

@@ -2,8 +2,8 @@
 use Rattle.std.proofs.Common.{List}
 use Rattle.tb_core.specs.Tree.{Tree, Trees, none, more}
 use Rattle.tb_core.specs.Reference.{Context}
-use Rattle.tb_macm.specs.declared.code.Instr.{Instr}
-use Rattle.tb_macm.specs.declared.code.PlaceEntry.{PlaceEntry}
+use Rattle.tb_small_mac.specs.declared.code.Instr.{Instr}
+use Rattle.tb_small_mac.specs.declared.code.PlaceEntry.{PlaceEntry}
 use Rattle.tb_small.specs.Built.{Built, BuiltAll, built_quote, built_local, built_if, built_let, built_seq, built_put, built_binary, built_none, built_more}
 use Rattle.tb_small.proofs.Sizes.{length_code, length_chosen, sizes_none, sizes_more}
 use Rattle.tb_small.proofs.MacOperands.{Ready, AllReady}

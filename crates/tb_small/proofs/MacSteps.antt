@@ -8,16 +8,16 @@ use Rattle.tb_prim.specs.declared.event.Event.{Event}
 use Rattle.tb_prim.specs.declared.event.Stop.{Stop}
 use Rattle.tb_core.specs.Store.{Value}
 use Rattle.tb_core.specs.Effects.{Effect, Gives, Puts, Fails}
-use Rattle.tb_macm.specs.declared.word.Word.{Word}
-use Rattle.tb_macm.specs.declared.word.Word.TheVariants as W
-use Rattle.tb_macm.specs.declared.code.Instr.{Instr}
-use Rattle.tb_macm.specs.declared.code.Instr.TheVariants.{Load, Store, Jump, Brf}
-use Rattle.tb_macm.specs.declared.code.PlaceEntry.{PlaceEntry}
-use Rattle.tb_macm.specs.declared.primitive.Answer.{Answer}
-use Rattle.tb_macm.specs.declared.primitive.Answer.TheVariants as A
-use Rattle.tb_macm.specs.Words.{on_some, frame_size}
-use Rattle.tb_macm.specs.MacStep.{Mac, Stopped, perform, stuck, set_register, set_word, jump_to, slot_at, goes, place_of, finish, is_false}
-use Rattle.tb_macm.specs.MacEvents.{Going, Halted, next, next_state}
+use Rattle.tb_small_mac.specs.declared.word.Word.{Word}
+use Rattle.tb_small_mac.specs.declared.word.Word.TheVariants as W
+use Rattle.tb_small_mac.specs.declared.code.Instr.{Instr}
+use Rattle.tb_small_mac.specs.declared.code.Instr.TheVariants.{Load, Store, Jump, Brf}
+use Rattle.tb_small_mac.specs.declared.code.PlaceEntry.{PlaceEntry}
+use Rattle.tb_small_mac.specs.declared.primitive.Answer.{Answer}
+use Rattle.tb_small_mac.specs.declared.primitive.Answer.TheVariants as A
+use Rattle.tb_small_mac.specs.Words.{on_some, frame_size}
+use Rattle.tb_small_mac.specs.MacStep.{Mac, Stopped, perform, stuck, set_register, set_word, jump_to, slot_at, goes, place_of, finish, is_false}
+use Rattle.tb_small_mac.specs.MacEvents.{Going, Halted, next, next_state}
 use Rattle.tb_small.specs.Generate.{Slots, slot_of, result}
 use Rattle.tb_small.specs.Meaning.{Values, Meaning, Gave, Failed, before, and_then, of_effect}
 use Rattle.tb_small.specs.Built.{word_of, HasSlots, HasFrame}

@@ -8,8 +8,8 @@ use Rattle.tb_prim.specs.declared.primitive.Primitive.TheVariants.{WriteChar}
 use Rattle.tb_core.specs.Tree.{Tree, Node, If, Let, PrimUse, Trees, none, more, count}
 use Rattle.tb_core.specs.OperandOrder.{is_simple}
 use Rattle.tb_core.specs.Reference.{Context}
-use Rattle.tb_macm.specs.declared.code.PlaceEntry.{PlaceEntry}
-use Rattle.tb_macm.specs.MacStep.{place_of}
+use Rattle.tb_small_mac.specs.declared.code.PlaceEntry.{PlaceEntry}
+use Rattle.tb_small_mac.specs.MacStep.{place_of}
 use Rattle.tb_small.specs.Generate.{never, same, places, all_places, chosen_places, size, all_size, operand_size, chosen_size, prim_size}
 use Rattle.tb_small.specs.Built.{Built, BuiltAll, built_quote, built_local, built_if, built_let, built_seq, built_put, built_binary, built_none, built_more}
 use Rattle.tb_small.proofs.Sizes.{operand_split}

@@ -9,8 +9,9 @@ use Rattle.tb_prim.specs.declared.primitive.Primitive.TheVariants.{WriteChar, Ad
 use Rattle.tb_core.specs.Tree.{Tree, Node, Form, Let, PrimUse, Trees, none, more, count}
 use Rattle.tb_core.specs.FreeVariables.{free, free_form, free_all}
 use Rattle.tb_core.specs.OperandOrder.{operands, line_of}
-use Rattle.tb_core.specs.Store.{Value, Fix, Char, Unspecified, Env, Item, cut, bind_from}
-use Rattle.tb_core.specs.Effects.{Effect, Gives, Puts, Fails, is_fixnum, with_fix, effect_of}
+use Rattle.tb_core.specs.Store.{Value, Fix, Char, Unspecified, Env, Item, cut, bind_from, contents}
+use Rattle.tb_prim.specs.Fixnums.{is_fixnum}
+use Rattle.tb_core.specs.Effects.{Effect, Gives, Puts, Fails, with_fix, effect_of}
 use Rattle.tb_core.specs.Reference.{Context, Config, Control, Val, Frame, State, Stopped, step, eval, perform, complete, value_for, prepend, arranged, vars}
 use Rattle.tb_core.proofs.Lines.{line-all, line-length, arranged-length}
 use Rattle.tb_small.specs.Generate.{never}
@@ -70,9 +71,9 @@ plain_gives_fix n false = tt
 
 -- the same effect in each store, and a plain one
 abbrev KeepsPlain : Primitive → ℕ → Type 0
-KeepsPlain pr n = (st : List Item) (vs : List Value) → length vs ≡ n → (effect_of st pr vs ≡ effect_of [] pr vs) × IsPlainEffect (effect_of [] pr vs)
+KeepsPlain pr n = (st : List Item) (vs : List Value) → length vs ≡ n → (effect_of (contents st) pr vs ≡ effect_of (contents []) pr vs) × IsPlainEffect (effect_of (contents []) pr vs)
 
-with_char_plain : (v : Value) → IsPlainEffect (effect_of [] WriteChar (v ∷ []))
+with_char_plain : (v : Value) → IsPlainEffect (effect_of (contents []) WriteChar (v ∷ []))
 with_char_plain (Char ch) = tt
 with_char_plain _ = tt
 
@@ -81,7 +82,7 @@ put_plain st [] l = absurd (omega arith)
 put_plain st (v ∷ []) l = (refl, with_char_plain v)
 put_plain st (v ∷ w ∷ vs) l = absurd (omega arith)
 
-two_plain : (pr : Primitive) → IsBinary pr → (st : List Item) (v w : Value) → (effect_of st pr (v ∷ w ∷ []) ≡ effect_of [] pr (v ∷ w ∷ [])) × IsPlainEffect (effect_of [] pr (v ∷ w ∷ []))
+two_plain : (pr : Primitive) → IsBinary pr → (st : List Item) (v w : Value) → (effect_of (contents st) pr (v ∷ w ∷ []) ≡ effect_of (contents []) pr (v ∷ w ∷ [])) × IsPlainEffect (effect_of (contents []) pr (v ∷ w ∷ []))
 two_plain Add b st v w = (refl, plain_with_fix v _ (λ m. plain_with_fix w _ (λ n. plain_gives_fix (m +ℤ n) (is_fixnum (m +ℤ n)))))
 two_plain Sub b st v w = (refl, plain_with_fix v _ (λ m. plain_with_fix w _ (λ n. plain_gives_fix (m -ℤ n) (is_fixnum (m -ℤ n)))))
 two_plain NumEq b st v w = (refl, plain_with_fix v _ (λ m. plain_with_fix w _ (λ n. tt)))
@@ -120,12 +121,12 @@ prim_does x p s pr ts does_all o keeps c r env held fs es =
     let k : Control = eval x (Node p s f) env in
     let held1 : HoldsAll (all ++ []) r env1 c.store = subst (λ ys. HoldsAll ys r env1 c.store) (sym (append-nil all)) (holds_cut r env c.store all all (λ y i. i) held) in
     does_step x c fs es (at c k fs es) (waits x p s f r fs c k fs [] env1 (x.order s) es) (meaning r (Node p s f)) refl
-    (operands_then x p s f r fs does_all o c k fs env1 es held1 (λ vs. of_effect p (effect_of [] pr (by_number ts vs)))
+    (operands_then x p s f r fs does_all o c k fs env1 es held1 (λ vs. of_effect p (effect_of (contents []) pr (by_number ts vs)))
     (λ items hs vs env2 j ds l. let g : Config = grown c items in
     let h = keeps g.store (by_number ts vs) (evaluated x s f r vs env2 g.store o l) in
-    subst (λ t. Does x g fs (es ++ hs) t (of_effect p (effect_of [] pr (by_number ts vs)))) (sym (completes x p s f r fs o g j ds vs env2 (es ++ hs)))
-    (subst (λ d. Does x g fs (es ++ hs) (perform (record g { control = j; frames = ds }) p d fs (es ++ hs)) (of_effect p (effect_of [] pr (by_number ts vs)))) (sym h.0)
-    (performs x g j ds p (effect_of [] pr (by_number ts vs)) fs (es ++ hs) h.1))))
+    subst (λ t. Does x g fs (es ++ hs) t (of_effect p (effect_of (contents []) pr (by_number ts vs)))) (sym (completes x p s f r fs o g j ds vs env2 (es ++ hs)))
+    (subst (λ d. Does x g fs (es ++ hs) (perform (record g { control = j; frames = ds }) p d fs (es ++ hs)) (of_effect p (effect_of (contents []) pr (by_number ts vs)))) (sym h.0)
+    (performs x g j ds p (effect_of (contents []) pr (by_number ts vs)) fs (es ++ hs) h.1))))
 
 -- what is done where items were added before
 does_grown : (x : Context) (c : Config) (items : List Item) (fs : List Frame) (es : List Event) (s : State) (m : Meaning) → Does x (grown c items) fs es s m → Does x c fs es s m

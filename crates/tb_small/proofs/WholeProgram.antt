@@ -8,7 +8,7 @@ use Rattle.tb_core.specs.Store.{Unspecified}
 use Rattle.tb_core.specs.Reference.{reference, start_of}
 use Rattle.tb_core.specs.Width.{nodes_all}
 use Rattle.tb_core.proofs.Steps.{in_order}
-use Rattle.tb_macm.proofs.RunLaws.{emits_in_order}
+use Rattle.tb_small_mac.proofs.RunLaws.{emits_in_order}
 use Rattle.tb_small.specs.Generate.{program_of, program_code, program_places}
 use Rattle.tb_small.specs.Compiled.{Compiles, IsSmall, small_context}
 use Rattle.tb_small.proofs.FinalEvents.{final_events}

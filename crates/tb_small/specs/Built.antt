@@ -10,10 +10,10 @@ use Rattle.tb_core.specs.FreeVariables.{is_in}
 use Rattle.tb_core.specs.OperandOrder.{line_of}
 use Rattle.tb_core.specs.Store.{Value, Fix, Char, Truth, Nil, Unspecified, Undefined, EndObject, At, Env, Item, Var, lookup, value_of}
 use Rattle.tb_core.specs.Reference.{Context}
-use Rattle.tb_macm.specs.declared.word.Word.{Word}
-use Rattle.tb_macm.specs.declared.word.Word.TheVariants as W
-use Rattle.tb_macm.specs.Words.{imm_word}
-use Rattle.tb_macm.specs.MacStep.{Mac}
+use Rattle.tb_small_mac.specs.declared.word.Word.{Word}
+use Rattle.tb_small_mac.specs.declared.word.Word.TheVariants as W
+use Rattle.tb_small_mac.specs.Words.{imm_word}
+use Rattle.tb_small_mac.specs.MacStep.{Mac}
 use Rattle.tb_small.specs.Generate.{never, bits_of, Slots, slot_of}
 use Rattle.tb_small.specs.Meaning.{Values, value_in}
 

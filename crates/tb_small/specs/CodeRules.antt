@@ -1,8 +1,8 @@
 -- The rules of code that bind its instructions and its places.
 use Rattle.std.specs.Prelude.{◌≡◌, ◌≤◌, ◌<◌, ◌^◌, List, length, map, All}
-use Rattle.tb_macm.specs.declared.code.Instr.{Instr}
-use Rattle.tb_macm.specs.declared.code.PlaceEntry.{PlaceEntry}
-use Rattle.tb_macm.specs.Rules.{InstrOk, failing_from}
+use Rattle.tb_small_mac.specs.declared.code.Instr.{Instr}
+use Rattle.tb_small_mac.specs.declared.code.PlaceEntry.{PlaceEntry}
+use Rattle.tb_small_mac.specs.Rules.{InstrOk, failing_from}
 
 -- instructions with fields in range, and a place for each of those that can fail
 pub record CodeKeepsRules (code : List Instr) (places : List PlaceEntry) : Type 0 where

@@ -8,9 +8,9 @@ use Rattle.tb_prim.specs.declared.primitive.Primitive.TheVariants.{WriteChar, Ad
 use Rattle.tb_core.specs.Tree.{Tree, Node, Form, Quote, Local, If, Let, Seq, PrimUse, Trees, none, more, count, ProgramTree}
 use Rattle.tb_core.specs.OperandOrder.{is_simple}
 use Rattle.tb_core.specs.Width.{nodes_all}
-use Rattle.tb_macm.specs.declared.code.Instr.{Instr}
-use Rattle.tb_macm.specs.declared.code.Instr.TheVariants.{Save, Load, Store, Jump, Brf, Imm, Op1, Op2, End}
-use Rattle.tb_macm.specs.declared.code.PlaceEntry.{PlaceEntry}
+use Rattle.tb_small_mac.specs.declared.code.Instr.{Instr}
+use Rattle.tb_small_mac.specs.declared.code.Instr.TheVariants.{Save, Load, Store, Jump, Brf, Imm, Op1, Op2, End}
+use Rattle.tb_small_mac.specs.declared.code.PlaceEntry.{PlaceEntry}
 
 -- a program that is these forms alone
 abbrev pub program_of : Trees → ProgramTree

@@ -5,7 +5,7 @@ use Rattle.tb_prim.specs.declared.event.Cause.{Cause}
 use Rattle.tb_prim.specs.declared.event.Event.{Event}
 use Rattle.tb_core.specs.Tree.{Tree, Node, Form, Quote, Local, If, Let, Seq, PrimUse, Trees, none, more}
 use Rattle.tb_core.specs.OperandOrder.{is_simple, line_of}
-use Rattle.tb_core.specs.Store.{Value, Unspecified, value_of}
+use Rattle.tb_core.specs.Store.{Value, Unspecified, value_of, contents}
 use Rattle.tb_core.specs.Effects.{Effect, Gives, Puts, Fails, is_false, effect_of}
 use Rattle.tb_core.specs.Reference.{arranged}
 use Rattle.tb_small.specs.Generate.{never, same}
@@ -86,7 +86,7 @@ abbrev mutual
       all_then (all_then_all (chosen_meanings false r es []) (λ vs. chosen_meanings true r es vs)) (λ vs. meaning (values_from xs (by_number es vs) r) e)
   form_meaning r p (Seq es) = sequence_meaning r es
   form_meaning r p (PrimUse pr es) =
-      all_then (all_then_all (chosen_meanings false r es []) (λ vs. chosen_meanings true r es vs)) (λ vs. of_effect p (effect_of [] pr (by_number es vs)))
+      all_then (all_then_all (chosen_meanings false r es []) (λ vs. chosen_meanings true r es vs)) (λ vs. of_effect p (effect_of (contents []) pr (by_number es vs)))
   form_meaning r p _ = Gave [] Unspecified
 
   -- a sequence has the value of its last expression

@@ -2,9 +2,9 @@
 use Rattle.std.specs.Prelude.{◌+◌, ℕ, Bool, true, false, cond, List, [], ◌∷◌, ◌++◌}
 use Rattle.tb_core.specs.Tree.{Tree, Trees, count}
 use Rattle.tb_core.specs.OperandOrder.{is_simple}
-use Rattle.tb_macm.specs.declared.code.Instr.{Instr}
-use Rattle.tb_macm.specs.declared.code.Instr.TheVariants.{Store}
-use Rattle.tb_macm.specs.declared.code.PlaceEntry.{PlaceEntry}
+use Rattle.tb_small_mac.specs.declared.code.Instr.{Instr}
+use Rattle.tb_small_mac.specs.declared.code.Instr.TheVariants.{Store}
+use Rattle.tb_small_mac.specs.declared.code.PlaceEntry.{PlaceEntry}
 use Rattle.tb_small.specs.Generate.{Slots, result, never, same, size, operand_size, chosen_size, code, chosen, places, chosen_places}
 
 -- the code of operands, which are stored in slots from `d` on: first those that are not simple, then those

@@ -12,7 +12,7 @@ use super::scope::{Slot, find_slot, inner_scope};
 use super::size::{operand_count, slot_behind};
 use std::alloc::Global;
 use tb_core::{Core, Expr, VarId};
-use tb_macm::Instr;
+use tb_small_mac::Instr;
 use tb_prim::{NoMemory, Place, Prim};
 
 /// Puts the code of the expression, which leaves its value in RESULT. The variables have the slots of the scope,

@@ -1,13 +1,13 @@
 ghost use Rattle.std.specs.Prelude.{◌≡◌, ◌+◌, ◌-◌, ◌≤◌, ◌<◌, ◌^◌, ◌++◌, [], ◌∷◌, length, OnOk};
 ghost use Rattle.tb_core.specs.OperandOrder.{is_simple as is_simple_in};
 ghost use Rattle.tb_core.specs.View.{view};
-ghost use Rattle.tb_macm.specs.declared.code.Instr.TheVariants.{Brf, Jump};
+ghost use Rattle.tb_small_mac.specs.declared.code.Instr.TheVariants.{Brf, Jump};
 ghost use Rattle.tb_small.specs.Generate as generate;
 ghost use Rattle.tb_small.specs.Ranges.{HasBits};
 
 use super::size::size;
 use tb_core::{Core, Expr};
-use tb_macm::{Instr, PlaceEntry};
+use tb_small_mac::{Instr, PlaceEntry};
 use tb_prim::{Const, NoMemory, Place, Prim};
 
 /// The number of the register RESULT.

@@ -1,7 +1,7 @@
 ghost use Rattle.std.specs.Prelude.{◌≡◌, ◌+◌, ◌*◌, ◌≤◌, length, map, IfOk, All};
 ghost use Rattle.tb_core.specs.View.{view, trees};
 ghost use Rattle.tb_core.specs.Width.{square_sum};
-ghost use Rattle.tb_macm.specs.Rules.{MapOk};
+ghost use Rattle.tb_small_mac.specs.Rules.{MapOk};
 ghost use Rattle.tb_small.specs.CodeRules.{CodeKeepsRules};
 ghost use Rattle.tb_small.specs.Compiled.{Compiles, IsSmall};
 ghost use Rattle.tb_small.specs.Generate.{program_of, program_code, program_places};
@@ -11,7 +11,7 @@ use super::generator::{Output, put};
 use super::size::all_nodes;
 use std::alloc::Global;
 use tb_core::Expr;
-use tb_macm::{Instr, LiveMap, MacCode, Parts};
+use tb_small_mac::{Instr, LiveMap, MacCode, Parts};
 use tb_prim::{NoMemory, Row};
 
 /// A map for each of so many instructions. No instruction of this stage needs to know what is live, so that

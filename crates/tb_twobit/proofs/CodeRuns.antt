@@ -6,11 +6,11 @@ use Rattle.tb_semantics.specs.Runs.{after}
 use Rattle.tb_semantics.proofs.SameEnd.{after-end}
 use Rattle.tb_core.specs.Tree.{Trees}
 use Rattle.tb_core.specs.Width.{square_sum}
-use Rattle.tb_macm.specs.declared.code.Instr.{Instr}
-use Rattle.tb_macm.specs.declared.code.PlaceEntry.{PlaceEntry}
-use Rattle.tb_macm.specs.MacStep.{Mac}
-use Rattle.tb_macm.specs.MacEvents.{MacState, Going, Halted, next, mac_start, mac_machine, events_of}
-use Rattle.tb_macm.specs.RunDoes.{RunDoes}
+use Rattle.tb_small_mac.specs.declared.code.Instr.{Instr}
+use Rattle.tb_small_mac.specs.declared.code.PlaceEntry.{PlaceEntry}
+use Rattle.tb_small_mac.specs.MacStep.{Mac}
+use Rattle.tb_small_mac.specs.MacEvents.{MacState, Going, Halted, next, mac_start, mac_machine, events_of}
+use Rattle.tb_small_mac.specs.RunDoes.{RunDoes}
 use Rattle.tb_small.specs.Compiled.{Compiles, IsOver}
 use Rattle.tb_small.specs.Generate.{program_of}
 use Rattle.tb_twobit.specs.declared.status.Status.{Status}

@@ -2,7 +2,7 @@
 use Rattle.std.proofs.Common.{◌≡◌, ℕ, ◌≤◌, List, [], length, Option, sym, subst, arith}
 use Rattle.tb_prim.specs.declared.place.Place.{Place}
 use Rattle.tb_core.specs.Tree.{Trees}
-use Rattle.tb_macm.specs.MacEvents.{MacState}
+use Rattle.tb_small_mac.specs.MacEvents.{MacState}
 use Rattle.tb_twobit.specs.Words.{Go}
 use Rattle.tb_twobit.specs.declared.status.Status.{Status}
 use Rattle.tb_twobit.specs.declared.status.Status.TheVariants as S

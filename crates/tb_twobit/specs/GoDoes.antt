@@ -11,12 +11,12 @@ use Rattle.tb_core.specs.OperandOrder.{order_of}
 use Rattle.tb_core.specs.Reference as ref
 use Rattle.tb_core.specs.Reference.{reference}
 use Rattle.tb_core.specs.Width.{square_sum}
-use Rattle.tb_macm.specs.declared.code.Instr.{Instr}
-use Rattle.tb_macm.specs.declared.code.PlaceEntry.{PlaceEntry}
-use Rattle.tb_macm.specs.MacStep.{Mac}
-use Rattle.tb_macm.specs.MacEvents as mac
-use Rattle.tb_macm.specs.MacEvents.{MacState, Going, Halted, mac_machine, puts}
-use Rattle.tb_macm.specs.RunDoes.{IsPassing}
+use Rattle.tb_small_mac.specs.declared.code.Instr.{Instr}
+use Rattle.tb_small_mac.specs.declared.code.PlaceEntry.{PlaceEntry}
+use Rattle.tb_small_mac.specs.MacStep.{Mac}
+use Rattle.tb_small_mac.specs.MacEvents as mac
+use Rattle.tb_small_mac.specs.MacEvents.{MacState, Going, Halted, mac_machine, puts}
+use Rattle.tb_small_mac.specs.RunDoes.{IsPassing}
 use Rattle.tb_small.specs.Compiled.{Compiles}
 use Rattle.tb_small.specs.Generate.{program_of}
 use Rattle.tb_twobit.specs.Words.{Go}

@@ -11,7 +11,7 @@ use super::lines::say_failed;
 use super::status::Status;
 use std::alloc::Global;
 use tb_base::{Sink, Source};
-use tb_macm::{MacCode, MacMachine};
+use tb_small_mac::{MacCode, MacMachine};
 use tb_prim::Stop;
 
 /// The status of a run that stopped so. Says why and where it failed.

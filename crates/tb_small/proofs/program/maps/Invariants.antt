@@ -1,5 +1,5 @@
 use Rattle.std.proofs.Common.{◌≡◌, length, All}
-use Rattle.tb_macm.specs.Rules.{MapOk}
+use Rattle.tb_small_mac.specs.Rules.{MapOk}
 use Rattle.tb_small.proofs.program.maps.Given as goal
 
 abbrev pub invariant-loop : goal.invariant-loop

@@ -1,7 +1,7 @@
 use Rattle.std.proofs.Common.{subst}
-use Rattle.tb_macm.specs.Loaded.{Loaded}
-use Rattle.tb_macm.specs.MacEvents.{mac_start}
-use Rattle.tb_macm.specs.RunDoes.{RunDoes}
+use Rattle.tb_small_mac.specs.Loaded.{Loaded}
+use Rattle.tb_small_mac.specs.MacEvents.{mac_start}
+use Rattle.tb_small_mac.specs.RunDoes.{RunDoes}
 use Rattle.tb_twobit.specs.GoDoes.{no_heap}
 use Rattle.tb_twobit.proofs.CodeRuns.{code_does}
 use Rattle.tb_twobit.proofs.Parts.{gained_nothing}

@@ -1,5 +1,0 @@
-use Rattle.tb_macm.proofs.RunLaws.{emits_in_order}
-use Rattle.tb_macm.proofs.laws.events_come_in_order.Goals as goal
-
-pub returns : goal.returns
-returns c = record { law = emits_in_order }
