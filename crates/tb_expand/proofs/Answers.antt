@@ -2,7 +2,8 @@
 use Rattle.std.proofs.Common.{◌≡◌, refl, sym, ap, ◌∙◌, subst, ℕ, zero, suc, ◌+◌, ◌≤◌, arith}
 use Rattle.tb_sexp.specs.Tree as datum
 use Rattle.tb_expand.specs.Refusals.{Refusal}
-use Rattle.tb_expand.specs.Scopes.{State, Context}
+use Rattle.tb_expand.specs.declared.context.Context.{Context}
+use Rattle.tb_expand.specs.Scopes.{State}
 use Rattle.tb_expand.specs.Limits.{Limited, Within, Past}
 use Rattle.tb_expand.specs.Trees.{Node}
 use Rattle.tb_expand.specs.calls.Expand.{Answer, Made, Refused, Unfinished, on, on_limit, scan, scan_step, expand, bodies, step, body_step, form, form_step}

@@ -8,7 +8,8 @@ use Rattle.tb_expand.specs.Splits.{split}
 use Rattle.tb_expand.specs.Words.{Meaning, Variable, Special, Integrated, Plain, word_of}
 use Rattle.tb_expand.specs.Refusals as refusal
 use Rattle.tb_expand.specs.Refusals.{Refusal}
-use Rattle.tb_expand.specs.Scopes.{State, Context, fresh, enter}
+use Rattle.tb_expand.specs.declared.context.Context.{Context}
+use Rattle.tb_expand.specs.Scopes.{State, fresh, enter}
 use Rattle.tb_expand.specs.Limits.{inner, within, valued}
 use Rattle.tb_expand.specs.Shapes.{Formals, parameters, Defined, Value, Procedure, Definition, definition_of}
 use Rattle.tb_expand.specs.Expressions.{Expression, Wrong, Constantly, Naming, Operands, Sequence, Procedural, Binding, Recursion, expression, built}

@@ -7,7 +7,8 @@ use Rattle.tb_expand.specs.Trees.{variables, Node, At, Core, If, SetLocal, SetGl
 use Rattle.tb_expand.specs.Splits.{split}
 use Rattle.tb_expand.specs.Words.{Meaning, Variable, Special, Integrated, Plain, word_of}
 use Rattle.tb_expand.specs.Refusals.{Refusal}
-use Rattle.tb_expand.specs.Scopes.{State, Context, fresh, enter}
+use Rattle.tb_expand.specs.declared.context.Context.{Context}
+use Rattle.tb_expand.specs.Scopes.{State, fresh, enter}
 use Rattle.tb_expand.specs.Limits.{counted, opened, with_constant, inner, within, valued, how_many_data}
 use Rattle.tb_expand.specs.Shapes.{Formals, parameters, Pairs, Defined, Value, Procedure, Definition, definition_of}
 use Rattle.tb_expand.specs.Expressions.{Expression, Wrong, Constantly, Naming, Operands, Sequence, Procedural, Binding, Recursion, Build, Choosing, ChoosingOne, AssigningLocal, AssigningGlobal, Using, ApplyingTo, Calling, expression, built, follows}

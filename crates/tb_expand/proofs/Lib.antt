@@ -4,3 +4,4 @@ pub mod Complete
 pub mod Sizes
 pub mod Ends
 pub mod OneAnswer
+pub mod Lookups

@@ -4,7 +4,8 @@ use Rattle.tb_prim.specs.declared.place.Place.{Place}
 use Rattle.tb_sexp.specs.Tree as datum
 use Rattle.tb_expand.specs.Trees.{Node, Nodes}
 use Rattle.tb_expand.specs.Refusals.{Refusal, NotBuilt}
-use Rattle.tb_expand.specs.Scopes.{State, Context}
+use Rattle.tb_expand.specs.declared.context.Context.{Context}
+use Rattle.tb_expand.specs.Scopes.{State}
 use Rattle.tb_expand.specs.Means.{Means, Refuses}
 use Rattle.tb_expand.specs.Outside.{defined_by_all, first_outside_of}
 use Rattle.tb_expand.specs.Texts.{no_state, top_context, MeansForms, RefusesForms, MeansText, a_text, RefusesText, in_text, outside_text}

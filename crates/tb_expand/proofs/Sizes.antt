@@ -6,8 +6,11 @@ use Rattle.tb_prim.specs.Primitives.{arity_of}
 use Rattle.tb_sexp.specs.Tree as datum
 use Rattle.tb_expand.specs.Names.{Binder, bound_twice}
 use Rattle.tb_expand.specs.Trees.{Nodes, nil, cons, how_many}
-use Rattle.tb_expand.specs.Words.{Form, Quoting, Closure, Choice, Assigning, Defining, Beginning, Binding, Recursive, Applying, Later, Meaning, Variable, Special, Integrated, Plain, is_of_many}
-use Rattle.tb_expand.specs.Scopes.{State, Context, meaning}
+use Rattle.tb_expand.specs.declared.form.Form.{Form}
+use Rattle.tb_expand.specs.declared.form.Form.TheVariants.{Quoting, Closure, Choice, Assigning, Defining, Beginning, Binding, Recursive, Applying, Later}
+use Rattle.tb_expand.specs.Words.{Meaning, Variable, Special, Integrated, Plain, is_of_many}
+use Rattle.tb_expand.specs.declared.context.Context.{Context}
+use Rattle.tb_expand.specs.Scopes.{State, meaning}
 use Rattle.tb_expand.specs.Limits.{how_many_data}
 use Rattle.tb_expand.specs.Shapes.{Sort, Itself, Word, Listed, Nothing, sort, binder_of, binder_at, Formals, formals_of, parameters, elements_of, Pair, pair_with, pair_in, Pairs, and_pair, pairs_of, pairs_in, Parts, QuoteOf, LambdaOf, IfOf, ShortIfOf, SetOf, BeginOf, LetOf, LetrecOf, ApplyOf, Unbuilt, quote_parts, lambda_of, lambda_parts, if_parts, set_of, set_parts, begin_parts, let_of, named_or, let_parts, letrec_of, letrec_parts, apply_parts, parts_of, Defined, Value, Procedure, Definition, value_definition, procedure_definition, procedure_at, definition_by, definition_of, all_fixed, with_rest, binders_of}
 use Rattle.tb_expand.specs.Expressions as expr

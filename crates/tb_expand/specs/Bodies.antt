@@ -4,10 +4,11 @@ use Rattle.tb_prim.specs.declared.place.Place.{Place}
 use Rattle.tb_sexp.specs.Tree as datum
 use Rattle.tb_expand.specs.Names.{Name, Binder}
 use Rattle.tb_expand.specs.Trees.{Var}
-use Rattle.tb_expand.specs.Words.{Form}
-use Rattle.tb_expand.specs.Words as word
+use Rattle.tb_expand.specs.declared.form.Form.{Form}
+use Rattle.tb_expand.specs.declared.form.Form.TheVariants as word
 use Rattle.tb_expand.specs.Refusals.{Refusal, BadForm}
-use Rattle.tb_expand.specs.Scopes.{State, Context, fresh, enter}
+use Rattle.tb_expand.specs.declared.context.Context.{Context}
+use Rattle.tb_expand.specs.Scopes.{State, fresh, enter}
 use Rattle.tb_expand.specs.Limits.{within}
 use Rattle.tb_expand.specs.Shapes.{Sort, Itself, Word, Listed, Nothing, sort, Defined, Definition, definition_of}
 use Rattle.tb_expand.specs.Expressions.{Head, Operator, Keyword, Primitively, head}

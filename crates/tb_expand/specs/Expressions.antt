@@ -8,11 +8,13 @@ use Rattle.tb_prim.specs.Primitives.{arity_of}
 use Rattle.tb_sexp.specs.Tree as datum
 use Rattle.tb_expand.specs.Names.{Name, Binder, bound_twice}
 use Rattle.tb_expand.specs.Trees.{Var, Node, At, Core, Unspecified, Local, Global, If, SetLocal, SetGlobal, DefGlobal, Call, PrimUse, Apply, Nodes, nil, cons}
-use Rattle.tb_expand.specs.Words.{Form, Meaning, Variable, Special, Integrated, Plain, is_of_many}
-use Rattle.tb_expand.specs.Words as word
+use Rattle.tb_expand.specs.declared.form.Form.{Form}
+use Rattle.tb_expand.specs.Words.{Meaning, Variable, Special, Integrated, Plain, is_of_many}
+use Rattle.tb_expand.specs.declared.form.Form.TheVariants as word
 use Rattle.tb_expand.specs.Refusals as refusal
 use Rattle.tb_expand.specs.Refusals.{Refusal}
-use Rattle.tb_expand.specs.Scopes.{State, Context, meaning}
+use Rattle.tb_expand.specs.declared.context.Context.{Context}
+use Rattle.tb_expand.specs.Scopes.{State, meaning}
 use Rattle.tb_expand.specs.Limits.{how_many_data}
 use Rattle.tb_expand.specs.Shapes.{Sort, Itself, Word, Listed, Nothing, sort, Formals, parameters, Pairs, Parts, QuoteOf, LambdaOf, IfOf, ShortIfOf, SetOf, BeginOf, LetOf, LetrecOf, ApplyOf, Unbuilt, parts_of}
 

@@ -5,7 +5,8 @@ use Rattle.std.specs.List.{list_any}
 use Rattle.tb_prim.specs.declared.place.Place.{Place}
 use Rattle.tb_sexp.specs.Tree as datum
 use Rattle.tb_expand.specs.Refusals.{Refusal, Budget, TooDeep}
-use Rattle.tb_expand.specs.Scopes.{State, Context}
+use Rattle.tb_expand.specs.declared.context.Context.{Context}
+use Rattle.tb_expand.specs.Scopes.{State}
 
 -- what was made stays within the limits, or the refusal
 pub data Limited : Type 0 where

@@ -7,7 +7,8 @@ use Rattle.tb_expand.specs.Names.{Name, Binder, names, bound_twice}
 use Rattle.tb_expand.specs.Trees.{Var, variables, Node, At, Core, Constant, Lambda, Let, Seq, Nodes, nil, cons}
 use Rattle.tb_expand.specs.Splits.{Split, split, node_of, inserted, first_deep}
 use Rattle.tb_expand.specs.Refusals.{Refusal, BadForm, Duplicate, TooDeep}
-use Rattle.tb_expand.specs.Scopes.{State, Context, fresh, enter}
+use Rattle.tb_expand.specs.declared.context.Context.{Context}
+use Rattle.tb_expand.specs.Scopes.{State, fresh, enter}
 use Rattle.tb_expand.specs.Limits.{Limited, Within, Past, counted, opened, with_constant, inner, within, valued, how_many_data}
 use Rattle.tb_expand.specs.Shapes.{Formals, parameters, Pairs, Defined, Value, Procedure}
 use Rattle.tb_expand.specs.Expressions.{Expression, Wrong, Constantly, Naming, Operands, Sequence, Procedural, Binding, Recursion, Build, expression, built, follows}

@@ -1,5 +1,6 @@
 -- Names, and lists of names that are bound together.
 use Rattle.std.specs.Prelude.{ℕ, ◌==◌, ◌&&◌, ◌||◌, Bool, false, cond, List, [], ◌∷◌, Option, Some, None, bytes_eq}
+use Rattle.std.specs.List.{list_any}
 use Rattle.tb_prim.specs.declared.place.Place.{Place}
 
 -- a name is a text and an alias; alias 0 is a name as it was written
@@ -12,8 +13,7 @@ same_name x y = bytes_eq x.text y.text && (x.alias == y.alias)
 
 -- whether a name is one of these
 abbrev pub is_among : Name → List Name → Bool
-is_among x [] = false
-is_among x (y ∷ ys) = same_name y x || is_among x ys
+is_among x ys = list_any (same_name x) ys
 
 -- a name that is bound, and where it stands
 pub record Binder : Type 0 where

@@ -1,5 +1,6 @@
 -- Scopes, and what a name means in one.
 use Rattle.std.specs.Prelude.{ℕ, ◌+◌, ◌==◌, Bool, cond, List, [], ◌∷◌, length, Option, Some, None}
+use Rattle.tb_expand.specs.declared.context.Context.{Context}
 use Rattle.tb_expand.specs.Names.{Name, is_among}
 use Rattle.tb_expand.specs.Trees.{Var}
 use Rattle.tb_expand.specs.Words.{Meaning, Variable, word_of}
@@ -19,15 +20,6 @@ pub record State : Type 0 where
   pub objects : ℕ
   pub words : ℕ
   pub symbols : List (List ℕ)
-
--- where an expression stands: whether in the library, in which scope, with how many levels of nodes left below the
--- limit, its own included, and whether a `letrec` or a definition of a body binds it
-pub record Context : Type 0 where
-  pub library : Bool
-  pub scope : ℕ
-  pub levels : ℕ
-  pub is_value : Bool
-
 
 -- the innermost binding of exactly this name, from the scope of this number outwards
 unfoldable pub binding : List Scope → ℕ → Name → Option Var

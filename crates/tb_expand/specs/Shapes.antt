@@ -3,7 +3,8 @@ use Rattle.std.specs.Prelude.{ℕ, List, [], ◌∷◌, ◌++◌, Option, Some, 
 use Rattle.tb_prim.specs.declared.place.Place.{Place}
 use Rattle.tb_sexp.specs.Tree as datum
 use Rattle.tb_expand.specs.Names.{Name, Binder}
-use Rattle.tb_expand.specs.Words.{Form, Quoting, Closure, Choice, Assigning, Defining, Beginning, Binding, Recursive, Applying, Later}
+use Rattle.tb_expand.specs.declared.form.Form.{Form}
+use Rattle.tb_expand.specs.declared.form.Form.TheVariants.{Quoting, Closure, Choice, Assigning, Defining, Beginning, Binding, Recursive, Applying, Later}
 
 -- a datum as an expression: a constant that stands for itself, a name, a list with its first element and the others,
 -- or nothing that is an expression: the empty list, a dotted list or a vector

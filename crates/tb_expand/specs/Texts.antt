@@ -4,9 +4,10 @@ use Rattle.tb_prim.specs.declared.place.Place.{Place}
 use Rattle.tb_sexp.specs.Tree as datum
 use Rattle.tb_expand.specs.Trees.{Node, At, DefGlobal, Nodes, nil, cons, joined}
 use Rattle.tb_expand.specs.Words.{Meaning, Plain, word_of}
-use Rattle.tb_expand.specs.Words as word
+use Rattle.tb_expand.specs.declared.form.Form.TheVariants as word
 use Rattle.tb_expand.specs.Refusals.{Refusal, BadForm, Integrated, NotBuilt}
-use Rattle.tb_expand.specs.Scopes.{State, Context}
+use Rattle.tb_expand.specs.declared.context.Context.{Context}
+use Rattle.tb_expand.specs.Scopes.{State}
 use Rattle.tb_expand.specs.Limits.{Within, Past, opened, inner}
 use Rattle.tb_expand.specs.Shapes.{Sort, Itself, Word, Listed, Nothing, sort, Definition, definition_of}
 use Rattle.tb_expand.specs.Expressions.{Head, Operator, Keyword, Primitively, head}

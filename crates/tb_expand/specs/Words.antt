@@ -4,20 +4,9 @@ use Rattle.std.specs.Prelude.{ℕ, Bool, true, false, cond, List, [], ◌∷◌,
 use Rattle.tb_prim.specs.declared.primitive.Primitive.{Primitive}
 use Rattle.tb_prim.specs.declared.primitive.Primitive.TheVariants.{Add, Sub, Mul, NumEq, Less, Greater, LessEq, GreaterEq}
 use Rattle.tb_prim.specs.Names.{prim_named}
+use Rattle.tb_expand.specs.declared.form.Form.{Form}
+use Rattle.tb_expand.specs.declared.form.Form.TheVariants.{Quoting, Closure, Choice, Assigning, Defining, Beginning, Binding, Recursive, Applying, Later}
 use Rattle.tb_expand.specs.Trees.{Var}
-
--- the forms (R5RS 4 and 5); those of the last kind are not built yet
-pub data Form : Type 0 where
-  Quoting : Form
-  Closure : Form
-  Choice : Form
-  Assigning : Form
-  Defining : Form
-  Beginning : Form
-  Binding : Form
-  Recursive : Form
-  Applying : Form
-  Later : Form
 
 -- a text, and what it stands for
 pub record Entry (X : Type 0) : Type 0 where
@@ -32,17 +21,9 @@ abbrev pub find : {X : Type 0} → List (Entry X) → List ℕ → Option X
 find [] s = None
 find (e ∷ es) s = cond (bytes_eq s e.text) (Some e.stands_for) (find es s)
 
-unfoldable pub forms : List (Entry Form)
-forms =
-    entry (codes "quote") Quoting ∷
-    entry (codes "lambda") Closure ∷
-    entry (codes "if") Choice ∷
-    entry (codes "set!") Assigning ∷
-    entry (codes "define") Defining ∷
-    entry (codes "begin") Beginning ∷
-    entry (codes "let") Binding ∷
-    entry (codes "letrec") Recursive ∷
-    entry (codes "apply") Applying ∷
+-- the names of forms that are not built yet
+unfoldable pub later_forms : List (Entry Form)
+later_forms =
     entry (codes "let-syntax") Later ∷
     entry (codes "letrec-syntax") Later ∷
     entry (codes "define-syntax") Later ∷
@@ -54,6 +35,19 @@ forms =
     entry (codes "or") Later ∷
     entry (codes "do") Later ∷
     entry (codes "quasiquote") Later ∷ []
+
+-- the names of forms (R5RS 4 and 5)
+unfoldable pub forms : List (Entry Form)
+forms =
+    entry (codes "quote") Quoting ∷
+    entry (codes "lambda") Closure ∷
+    entry (codes "if") Choice ∷
+    entry (codes "set!") Assigning ∷
+    entry (codes "define") Defining ∷
+    entry (codes "begin") Beginning ∷
+    entry (codes "let") Binding ∷
+    entry (codes "letrec") Recursive ∷
+    entry (codes "apply") Applying ∷ later_forms
 
 -- what a name means
 pub data Meaning : Type 0 where

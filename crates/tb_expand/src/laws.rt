@@ -3,7 +3,8 @@
 ghost use Rattle.std.specs.Prelude.{◌≡◌, ◌⊎◌, Bool};
 ghost use Rattle.tb_expand.specs.Means.{Means, Refuses};
 ghost use Rattle.tb_expand.specs.Refusals.{Refusal};
-ghost use Rattle.tb_expand.specs.Scopes.{Context, State};
+ghost use Rattle.tb_expand.specs.declared.context.Context.{Context};
+ghost use Rattle.tb_expand.specs.Scopes.{State};
 ghost use Rattle.tb_expand.specs.Texts.{MeansText, RefusesText};
 ghost use Rattle.tb_expand.specs.Trees.{Node, Nodes};
 ghost use Rattle.tb_sexp.specs.Tree as datum;

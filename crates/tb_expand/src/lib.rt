@@ -1,10 +1,20 @@
 //! The expansion of data into the core language: what a datum means in an environment, and the first refusal in it.
 #![tactic(auto)]
 
+mod context;
 mod examples;
+mod form;
 mod laws;
+mod name;
+mod refusal;
+mod state;
 mod tree;
 
+pub use context::Context;
 pub use examples::{worked_numbers, worked_refusals, worked_texts};
+pub use form::Form;
 pub use laws::{one_answer_a_datum, one_answer_a_text};
-pub use tree::{Core, Name, Node, Variable};
+pub use name::{Name, Variable};
+pub use refusal::ExpandRefusal;
+pub use state::{Meaning, Scope, State, find_meaning};
+pub use tree::{Core, Node};

@@ -1,20 +1,8 @@
+//! Trees of the core language without numbers.
+use super::name::Variable;
 use sqlite_items::Boxed;
 use tb_prim::{Place, Prim, Row};
 use tb_sexp::Node as DatumNode;
-
-/// A name as it stands in a text.
-#[derive(Clone, Copy, Debug)]
-pub struct Name<'a> {
-    pub text: &'a [u8],
-    pub alias: u32,
-}
-
-/// A variable: the number of the scope that binds it, and its name.
-#[derive(Clone, Copy, Debug)]
-pub struct Variable<'a> {
-    pub scope: usize,
-    pub name: Name<'a>,
-}
 
 /// A node: the place of the form that it comes from, and what it is.
 #[cycle(tree)]

@@ -2,7 +2,7 @@ use Rattle.std.proofs.Common.{refl, false}
 use Rattle.tb_sexp.specs.Tree as datum
 use Rattle.tb_expand.specs.Names.{same_name}
 use Rattle.tb_expand.specs.Trees.{Nodes}
-use Rattle.tb_expand.specs.Words.{forms, word_of}
+use Rattle.tb_expand.specs.Words.{forms, later_forms, word_of}
 use Rattle.tb_expand.specs.Scopes.{binding}
 use Rattle.tb_expand.specs.Limits.{opened, counted, with_constant}
 use Rattle.tb_expand.specs.Expressions.{expression}
@@ -15,7 +15,7 @@ use Rattle.tb_expand.proofs.Sound.{forms_sound}
 use Rattle.tb_expand.proofs.examples.worked_refusals.Goals as goal
 
 pub returns : goal.returns
-unfolding on on_limit expression kind top_kind word_of forms same_name binding opened counted with_constant library_names left_out_names is_one_of is_outside
+unfolding on on_limit expression kind top_kind word_of forms later_forms same_name binding opened counted with_constant library_names left_out_names is_one_of is_outside
 returns c = record {
   shapeless = in_text (forms_sound 20 no_state (top_context false) text.shapeless);
   integrated = in_text (forms_sound 20 no_state (top_context false) text.integrated);
