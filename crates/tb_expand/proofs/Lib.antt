@@ -5,3 +5,4 @@ pub mod Sizes
 pub mod Ends
 pub mod OneAnswer
 pub mod Lookups
+pub mod Rows

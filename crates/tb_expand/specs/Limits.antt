@@ -1,6 +1,6 @@
 -- The limits while expanding (this project's own): 1,000,000 nodes, 1,000 levels of them, 2^24 variables, 1,000,000
 -- static objects of 4,194,304 words.
-use Rattle.std.specs.Prelude.{ℕ, ◌+◌, ◌-◌, ◌*◌, ◌/◌, ◌%◌, ◌^◌, ◌==◌, ◌&&◌, nat_le, Bool, true, false, cond, List, [], ◌∷◌, length, bytes_eq}
+use Rattle.std.specs.Prelude.{ℕ, ◌+◌, ◌-◌, ◌*◌, ◌/◌, ◌%◌, ◌^◌, ◌==◌, ◌&&◌, nat_le, Bool, true, false, cond, List, [], ◌∷◌, ◌++◌, length, bytes_eq}
 use Rattle.std.specs.List.{list_any}
 use Rattle.tb_prim.specs.declared.place.Place.{Place}
 use Rattle.tb_sexp.specs.Tree as datum
@@ -49,14 +49,14 @@ one_object w st = record st { objects = st.objects + 1; words = st.words + w }
 -- a symbol is an object once
 abbrev pub symbol_object : Bool → List ℕ → State → State
 symbol_object true s st = st
-symbol_object false s st = record (one_object (byte_words s) st) { symbols = s ∷ st.symbols }
+symbol_object false s st = record (one_object (byte_words s) st) { symbols = st.symbols ++ (s ∷ []) }
 
 abbrev pub how_many_data : datum.Trees → ℕ
 how_many_data datum.none = 0
 how_many_data (datum.more d ds) = how_many_data ds + 1
 
 abbrev mutual
-  -- the static objects of a quoted datum: strings, symbols, pairs and vectors. The parts come before the whole
+  -- the static objects of a quoted datum: strings, symbols, pairs and vectors
   pub with_objects : datum.Tree → State → State
   with_objects (datum.At p s) st = with_objects_of s st
 
@@ -68,20 +68,24 @@ abbrev mutual
   with_objects_of (datum.String s) st = one_object (byte_words s) st
   with_objects_of (datum.Name s alias) st = symbol_object (list_any (bytes_eq s) st.symbols) s st
   with_objects_of (datum.Proper ds) st = with_pairs ds st
-  with_objects_of (datum.Dotted ds d) st = with_pairs ds (with_objects d st)
-  with_objects_of (datum.Vector ds) st = one_object (even (1 + how_many_data ds)) (with_each ds st)
+  with_objects_of (datum.Dotted ds d) st = with_objects d (with_pairs ds st)
+  with_objects_of (datum.Vector ds) st = with_each ds (one_object (even (1 + how_many_data ds)) st)
 
   -- a pair for each element
   pub with_pairs : datum.Trees → State → State
   with_pairs datum.none st = st
-  with_pairs (datum.more d ds) st = one_object 2 (with_pairs ds (with_objects d st))
+  with_pairs (datum.more d ds) st = with_pairs ds (with_objects d (one_object 2 st))
 
   pub with_each : datum.Trees → State → State
   with_each datum.none st = st
   with_each (datum.more d ds) st = with_each ds (with_objects d st)
 
+-- whether the static objects and their words are within the limits
+abbrev pub has_room : State → Bool
+has_room st = nat_le st.objects 1000000 && nat_le st.words 4194304
+
 -- the objects of a constant at this place
 unfoldable pub with_constant : Place → datum.Shape → State → Limited
 with_constant p s st =
     let new = with_objects_of s st in
-    cond (nat_le new.objects 1000000 && nat_le new.words 4194304) (Within new) (Past (Budget p))
+    cond (has_room new) (Within new) (Past (Budget p))
