@@ -43,7 +43,7 @@ looked-up g w _ q y v (bind {x = x} {v = u} {s = s} {r = r} f h hs) e =
     looked_first g w x y u v s r q (x == y) refl f h e (looked-up g w r q y v hs)
 
 -- an environment that is gathered of variables which the other has
-pub Points : (ℕ → Bool) → World Value → List ℕ → M.Env → S.Env → Type 0
+abbrev pub Points : (ℕ → Bool) → World Value → List ℕ → M.Env → S.Env → Type 0
 Points g w xs r q = (y : ℕ) (v : Value) → IsIn y xs → M.lookup r y ≡ Some v → (s : ℕ) × (S.lookup q y ≡ Some s) × VarRel w (g y) v s
 
 gather_found : (g : ℕ → Bool) (w : World Value) (x : ℕ) (o : Option Value) (rest : M.Env) (q : S.Env) → ((v : Value) → o ≡ Some v → (s : ℕ) × (S.lookup q x ≡ Some s) × VarRel w (g x) v s) → EnvRel g w rest q → EnvRel g w (bind_found x o rest) q
@@ -51,12 +51,10 @@ gather_found g w x None rest q h k = k
 gather_found g w x (Some v) rest q h k = let f = h v refl in bind f.1 f.2 k
 
 pub gather-points : (g : ℕ → Bool) (w : World Value) (xs : List ℕ) (r : M.Env) (q : S.Env) → Points g w xs r q → EnvRel g w (gather xs r) q
-unfolding Points
 gather-points g w [] r q h = empty
 gather-points g w (x ∷ xs) r q h = gather_found g w x (M.lookup r x) (gather xs r) q (λ v e. h x v (inl refl) e) (gather-points g w xs r q (λ y v i e. h y v (inr i) e))
 
 -- an environment that is gathered, and the other cut to no fewer variables
 pub gather-cut : (g : ℕ → Bool) (w : World Value) (xs ys : List ℕ) (r : M.Env) (q : S.Env) → EnvRel g w r q → ((y : ℕ) → IsIn y xs → IsIn y ys) → EnvRel g w (gather xs r) (S.cut ys q)
-unfolding Points
 gather-cut g w xs ys r q h k =
     gather-points g w xs r (S.cut ys q) (λ y v i e. let f = looked-up g w r q y v h e in (f.0, cut-kept ys q y (tested-in ys y (k y i)) ∙ f.1, f.2))

@@ -4,3 +4,8 @@ pub mod Grow
 pub mod Envs
 pub mod Match
 pub mod Shape
+pub mod Base
+pub mod Simple
+pub mod Lines
+pub mod Nodes
+pub mod Moves

@@ -3,9 +3,9 @@
 use Rattle.std.proofs.Common.{◌≡◌, refl, sym, ap, ◌∙◌, subst, ℕ, zero, suc, ◌+◌, ◌^◌, ◌<◌, ◌≤◌, inl, inr, ⊎_elim, arith, Bool, true, false, cond, IsTrue, List, [], ◌∷◌, ◌++◌, length, drop, Option, Some, None, slice_get}
 use Rattle.tb_prim.specs.declared.place.Place.{Place}
 use Rattle.tb_prim.specs.declared.event.Event.{Event}
-use Rattle.tb_semantics.specs.Graph.{IsIn}
+use Rattle.tb_semantics.specs.Graph.{IsIn, IsApart}
 use Rattle.tb_semantics.proofs.Worlds.{Entry, Both, Only, World, Grows, Items, Stores}
-use Rattle.tb_core.specs.Tree.{Tree, Node, Form, Let, Trees, LambdaTree, ProgramTree, parameters, tree_at}
+use Rattle.tb_core.specs.Tree.{Tree, Node, Form, Let, Letrec, Trees, LambdaTree, ProgramTree, parameters, tree_at}
 use Rattle.tb_core.specs.FreeVariables.{free, lambda_free, inner_free, is_assigned}
 use Rattle.tb_core.specs.OperandOrder.{HasLine, has_order, line_at, order_of}
 use Rattle.tb_core.specs.Rules.{Each, EachForm, EachAll, NodeKeeps, StaticsKeep, NoMark, is_mark}
@@ -18,22 +18,26 @@ use Rattle.tb_ir.specs.FreeVariables as F
 use Rattle.tb_ir.specs.Machine as M
 use Rattle.tb_ir.specs.TreeMachine as T
 use Rattle.tb_assign.specs.Eliminate.{celled, cell_name, eliminate, eliminate_form, eliminate_all, cells_of}
-use Rattle.tb_assign.proofs.Free.{NamesSmall, SmallLambdas}
+use Rattle.tb_assign.proofs.Free.{NamesSmall, SmallLambdas, AreSmall}
 
--- the variables of a body that are assigned are named in it
-abbrev pub Used : ProgramTree → List ℕ → Tree → Type 0
-Used p xs e = (x : ℕ) → IsIn x (celled (is_assigned p) xs) → IsIn x (free (inner_free p) e)
+-- the variables that are bound in a body are apart and have numbers of the program, and those that are assigned
+-- are named in it
+pub record BindsWell (p : ProgramTree) (xs : List ℕ) (e : Tree) : Type 0 where
+  pub apart : IsApart xs
+  pub small : AreSmall xs
+  pub used : (x : ℕ) → IsIn x (celled (is_assigned p) xs) → IsIn x (free (inner_free p) e)
 
-abbrev pub UsedIn : ProgramTree → Form → Type 0
-UsedIn p (Let xs es e) = Used p xs e
-UsedIn p f = Unit {0}
+abbrev pub BindsIn : ProgramTree → Form → Type 0
+BindsIn p (Let xs es e) = BindsWell p xs e
+BindsIn p (Letrec xs ls e) = BindsWell p xs e
+BindsIn p f = Unit {0}
 
 -- what the simulation needs of a node, and of a program
 pub record Good (p : ProgramTree) (s : ℕ) (f : Form) : Type 0 where
   pub node : NodeKeeps p s f
   pub lined : HasLine p s f
   pub named : NamesSmall s f
-  pub used : UsedIn p f
+  pub binds : BindsIn p f
 
 pub record Ready (p : ProgramTree) : Type 0 where
   pub names_forms : EachAll NamesSmall p.forms
@@ -41,7 +45,7 @@ pub record Ready (p : ProgramTree) : Type 0 where
   pub forms : EachAll (Good p) p.forms
   pub bodies : (n : ℕ) (l : LambdaTree) → slice_get p.lambdas n ≡ Some l → Each (Good p) l.body
   pub free_of : (n : ℕ) (l : LambdaTree) → slice_get p.lambdas n ≡ Some l → inner_free p n ≡ lambda_free (inner_free p) l
-  pub used : (n : ℕ) (l : LambdaTree) → slice_get p.lambdas n ≡ Some l → Used p (parameters l) l.body
+  pub binds : (n : ℕ) (l : LambdaTree) → slice_get p.lambdas n ≡ Some l → BindsWell p (parameters l) l.body
   pub values : (n : ℕ) (l : LambdaTree) → slice_get p.lambdas n ≡ Some l → is_mark l.body ≡ false
   pub closed : (n : ℕ) (e : Tree) (y : ℕ) → tree_at p.forms n ≡ Some e → IsIn y (free (inner_free p) e) → ⊥
   pub no_mark : NoMark p.forms

@@ -1,0 +1,11 @@
+pub mod Words
+pub mod Objects
+pub mod Layout
+pub mod Rules
+pub mod Effects
+pub mod Assembled
+pub mod MacStep
+pub mod MacEvents
+pub mod Bounds
+pub mod Examples
+pub mod CodeOf

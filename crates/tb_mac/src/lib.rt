@@ -1,0 +1,19 @@
+//! The MAC machine: its words, its instructions, its code with the rules that it keeps, and what its steps do.
+#![tactic(auto)]
+
+mod code;
+pub mod examples;
+
+mod immediate;
+mod lookup;
+mod numbers;
+mod word;
+
+pub use code::{
+    BitRow, EntryRow, IndexRow, Instr, InstrRow, LambdaEntry, LiveMap, MacCode, MapRow, OrderEntry,
+    OrderRow, Parts, PlaceEntry, PlaceRow,
+};
+pub use lookup::{fetch, place_of};
+pub use immediate::{immediate_bits, immediate_word};
+pub use numbers::primitive_at;
+pub use word::{Placed, Word, is_false, same_word};

@@ -1,0 +1,5 @@
+pub mod States
+pub mod Loaded
+pub mod Steps
+pub mod RunDoes
+pub mod calls
