@@ -5,7 +5,7 @@ use Rattle.std.proofs.lemmas.Bool.{ne_eqb, eq-eqb}
 use Rattle.tb_core.specs.declared.program.Lambda.{Lambda as LambdaCode}
 use Rattle.tb_core.specs.Tree.{LambdaTree, ProgramTree}
 use Rattle.tb_core.specs.FreeVariables.{is_assigned}
-use Rattle.tb_core.specs.Order.{is_marked}
+use Rattle.tb_core.specs.calls.Marks.{is_marked}
 use Rattle.tb_core.specs.OperandOrder.{Line, lines, lines_all, lambdas_lines, order_of}
 use Rattle.tb_core.specs.View.{view, view_lambda}
 

@@ -18,3 +18,4 @@ pub mod Order
 pub mod Lifting
 pub mod Rules
 pub mod Examples
+pub mod calls

@@ -1,12 +1,7 @@
 -- The lines of an operand order as the code has them.
-use Rattle.std.specs.Prelude.{ℕ, Bool, false, List, slice_index_or}
 use Rattle.tb_core.specs.declared.order.OrderLine.{OrderLine}
 use Rattle.tb_core.specs.OperandOrder.{Line}
 
 -- a line of the code as a line of the order
 abbrev pub view_line : OrderLine → Line
 view_line l = record { place = l.place; site = l.site; order = l.order }
-
--- whether a table has a mark at a number
-abbrev pub is_marked : List Bool → ℕ → Bool
-is_marked table x = slice_index_or table x false

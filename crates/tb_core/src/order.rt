@@ -1,17 +1,20 @@
 ghost use Rattle.std.specs.Prelude.{◌≡◌, ◌+◌, ◌≤◌, ◌++◌, ◌||◌, ◌==◌, suc, cond, not, ℕ, [], ◌∷◌, length, map, IfOk, OnOk};
 ghost use Rattle.tb_core.specs.FreeVariables as spec;
 ghost use Rattle.tb_core.specs.OperandOrder as orders;
-ghost use Rattle.tb_core.specs.Order.{view_line, is_marked};
+ghost use Rattle.tb_core.specs.Order.{view_line};
+ghost use Rattle.tb_core.specs.calls.Marks.{is_marked};
+ghost use Rattle.tb_core.specs.calls.Walks.{marks, lines_inside};
 ghost use Rattle.tb_core.specs.Tree as tree;
 ghost use Rattle.tb_core.specs.View.{view, view_core, trees, view_lambda, view_program};
 
 use super::limits::{MAX_DEPTH, after, levels_below};
 use super::{Core, Expr, Lambda, LambdaId, Program, Site, VarId};
 use std::alloc::Global;
+use std::slice;
 use tb_prim::{NoMemory, Place, Row};
 
 /// The numbers of operands.
-pub type IndexRow = Row<usize>;
+pub type IndexRow = Row<u16>;
 
 /// The order of the operands of one node.
 #[derive(Debug, Drop)]
@@ -145,9 +148,10 @@ fn table(alloc: Global, variables: &[VarId]) -> Result<Vec<bool>, NoMemory>
     Ok(marked)
 }
 
-/// Puts the number of an operand where it is as simple as asked for.
+/// Puts the number of an operand where it is as simple as asked for. An operand past number 65,535, which no program
+/// within the limits has, is answered by want of memory.
 fn put_number(
-    out: &mut Vec<usize>,
+    out: &mut Vec<u16>,
     marked: &[bool],
     simple: bool,
     number: usize,
@@ -156,14 +160,17 @@ fn put_number(
     ensures { OnOk result (out.new.items ≡ out.old.items ++ cond (orders.is_simple (is_marked marked.now) (view expr.now)) (cond simple (number ∷ []) []) (cond simple [] (number ∷ []))) }
 {
     if is_simple(marked, expr) == simple {
-        out.push(number)?;
+        if number > u16::MAX as usize {
+            return Err(NoMemory);
+        }
+        out.push(number as u16)?;
     }
     Ok(())
 }
 
 /// Puts the numbers of the operands that are as simple as asked for, the first of them being number `from`.
 fn put_numbers(
-    out: &mut Vec<usize>,
+    out: &mut Vec<u16>,
     marked: &[bool],
     simple: bool,
     from: usize,
@@ -179,7 +186,7 @@ fn put_numbers(
 }
 
 /// The order of these operands.
-fn order_of_all(alloc: Global, marked: &[bool], exprs: &[Expr]) -> Result<Vec<usize>, NoMemory>
+fn order_of_all(alloc: Global, marked: &[bool], exprs: &[Expr]) -> Result<Vec<u16>, NoMemory>
     ensures { IfOk result (λ order. order.items ≡ orders.line_of (is_marked marked.now) (trees (map view exprs.now))) }
 {
     let mut order = Vec::new(alloc);
@@ -188,13 +195,13 @@ fn order_of_all(alloc: Global, marked: &[bool], exprs: &[Expr]) -> Result<Vec<us
     Ok(order)
 }
 
-/// The order of the operator and the operands of a call.
-fn order_of_call(
+/// The order of an operator and the operands behind it.
+fn order_with(
     alloc: Global,
     marked: &[bool],
     operator: &Expr,
     exprs: &[Expr],
-) -> Result<Vec<usize>, NoMemory>
+) -> Result<Vec<u16>, NoMemory>
     ensures { IfOk result (λ order. order.items ≡ orders.line_of (is_marked marked.now) (tree.more (view operator.now) (trees (map view exprs.now)))) }
 {
     let mut order = Vec::new(alloc);
@@ -205,151 +212,81 @@ fn order_of_call(
     Ok(order)
 }
 
-/// The order of the procedure and the list of an application.
-fn order_of_apply(
-    alloc: Global,
-    marked: &[bool],
-    procedure: &Expr,
-    list: &Expr,
-) -> Result<Vec<usize>, NoMemory>
-    ensures { IfOk result (λ order. order.items ≡ orders.line_of (is_marked marked.now) (tree.more (view procedure.now) (tree.more (view list.now) tree.none))) }
-{
-    let mut order = Vec::new(alloc);
-    put_number(&mut order, marked, false, 0, procedure)?;
-    put_number(&mut order, marked, false, 1, list)?;
-    put_number(&mut order, marked, true, 0, procedure)?;
-    put_number(&mut order, marked, true, 1, list)?;
-    Ok(order)
-}
-
 /// Puts the line of a node.
-fn put_line(
-    out: &mut Vec<OrderLine>,
-    place: Place,
-    site: Site,
-    order: Vec<usize>,
-) -> Result<(), NoMemory>
-    ensures { OnOk result (map view_line out.new.items ≡ map view_line out.old.items ++ record { place = place; site = site; order = order.items } ∷ []) }
+fn put_line(out: &mut Vec<OrderLine>, expr: &Expr, order: Vec<u16>) -> Result<(), NoMemory>
+    ensures { OnOk result (map view_line out.new.items ≡ map view_line out.old.items ++ record { place = expr.now.place; site = expr.now.site; order = order.items } ∷ []) }
 {
-    let order = Row::from_vec(order);
-    out.push(OrderLine { place, site, order })?;
+    out.push(OrderLine {
+        place: expr.place,
+        site: expr.site,
+        order: Row::from_vec(order),
+    })?;
     Ok(())
 }
 
-/// Puts the lines of an expression in written order, a node before its parts. The number of the first of the
-/// lambda expressions is `first`, and those in the expression are among them. Goes no deeper than `levels` nodes, and
+/// What a walk over expressions carries along: the marks of the variables that are assigned, and the lambda expressions
+/// among which those inside stand, with the number of the first.
+#[derive(Clone, Copy)]
+struct Walk<'a> {
+    alloc: Global,
+    marked: &'a [bool],
+    lambdas: &'a [Lambda],
+    first: usize,
+}
+
+/// Puts the lines of an expression in written order, a node before its parts. Goes no deeper than `levels` nodes, and
 /// answers want of memory at a node below.
 #[cycle(lines)]
 #[tactic(auto, using(crate::proofs::Views::viewing))]
 fn put_lines(
-    alloc: Global,
-    marked: &[bool],
-    lambdas: &[Lambda],
-    first: usize,
+    walk: Walk,
     levels: u32,
     out: &mut Vec<OrderLine>,
     expr: &Expr,
 ) -> Result<(), NoMemory>
     requires { levels ≤ 1000 }
-    ensures { OnOk result (map view_line out.new.items ≡ map view_line out.old.items ++ orders.lines (is_marked marked.now) (orders.lambdas_lines (is_marked marked.now) (map view_lambda lambdas.now) first) (view expr.now)) }
+    ensures { OnOk result (map view_line out.new.items ≡ map view_line out.old.items ++ orders.lines (marks walk.entry) (lines_inside walk.entry) (view expr.now)) }
 {
     let levels = levels_below(levels)?;
     match &expr.core {
         Core::Quote(_) | Core::Local(_) | Core::Global(_) => Ok(()),
-        Core::Lambda(number) => put_lines_of_lambda(
-            alloc, marked, lambdas, first, levels, out, *number,
-        ),
+        Core::Lambda(number) => put_lines_of_lambda(walk, levels, out, *number),
         Core::If(test, then, other) => {
-            put_lines(alloc, marked, lambdas, first, levels, out, test.get())?;
-            put_lines(alloc, marked, lambdas, first, levels, out, then.get())?;
-            put_lines(alloc, marked, lambdas, first, levels, out, other.get())
+            put_lines(walk, levels, out, test.get())?;
+            put_lines(walk, levels, out, then.get())?;
+            put_lines(walk, levels, out, other.get())
         }
         Core::SetLocal(_, value) | Core::SetGlobal(_, value) | Core::DefGlobal(_, value) => {
-            put_lines(alloc, marked, lambdas, first, levels, out, value.get())
+            put_lines(walk, levels, out, value.get())
         }
         Core::Let(_, values, body) => {
-            put_line(
-                out,
-                expr.place,
-                expr.site,
-                order_of_all(alloc, marked, values.as_slice())?,
-            )?;
-            put_lines_of_all(
-                alloc,
-                marked,
-                lambdas,
-                first,
-                levels,
-                out,
-                values.as_slice(),
-            )?;
-            put_lines(alloc, marked, lambdas, first, levels, out, body.get())
+            let order = order_of_all(walk.alloc, walk.marked, values.as_slice())?;
+            put_line(out, expr, order)?;
+            put_lines_of_all(walk, levels, out, values.as_slice())?;
+            put_lines(walk, levels, out, body.get())
         }
         Core::Letrec(_, numbers, body) => {
-            put_lines_of_lambdas(
-                alloc,
-                marked,
-                lambdas,
-                first,
-                levels,
-                out,
-                numbers.as_slice(),
-            )?;
-            put_lines(alloc, marked, lambdas, first, levels, out, body.get())
+            put_lines_of_lambdas(walk, levels, out, numbers.as_slice())?;
+            put_lines(walk, levels, out, body.get())
         }
-        Core::Seq(exprs) => put_lines_of_all(
-            alloc,
-            marked,
-            lambdas,
-            first,
-            levels,
-            out,
-            exprs.as_slice(),
-        ),
+        Core::Seq(exprs) => put_lines_of_all(walk, levels, out, exprs.as_slice()),
         Core::Call(operator, operands) => {
-            put_line(
-                out,
-                expr.place,
-                expr.site,
-                order_of_call(alloc, marked, operator.get(), operands.as_slice())?,
-            )?;
-            put_lines(alloc, marked, lambdas, first, levels, out, operator.get())?;
-            put_lines_of_all(
-                alloc,
-                marked,
-                lambdas,
-                first,
-                levels,
-                out,
-                operands.as_slice(),
-            )
+            let order = order_with(walk.alloc, walk.marked, operator.get(), operands.as_slice())?;
+            put_line(out, expr, order)?;
+            put_lines(walk, levels, out, operator.get())?;
+            put_lines_of_all(walk, levels, out, operands.as_slice())
         }
         Core::Prim(_, operands) => {
-            put_line(
-                out,
-                expr.place,
-                expr.site,
-                order_of_all(alloc, marked, operands.as_slice())?,
-            )?;
-            put_lines_of_all(
-                alloc,
-                marked,
-                lambdas,
-                first,
-                levels,
-                out,
-                operands.as_slice(),
-            )
+            let order = order_of_all(walk.alloc, walk.marked, operands.as_slice())?;
+            put_line(out, expr, order)?;
+            put_lines_of_all(walk, levels, out, operands.as_slice())
         }
         Core::Apply(procedure, list) => {
-            put_line(
-                out,
-                expr.place,
-                expr.site,
-                order_of_apply(alloc, marked, procedure.get(), list.get())?,
-            )?;
-            put_lines(alloc, marked, lambdas, first, levels, out, procedure.get())?;
-            put_lines(alloc, marked, lambdas, first, levels, out, list.get())
+            let operands = slice::from_ref(list.get());
+            let order = order_with(walk.alloc, walk.marked, procedure.get(), operands)?;
+            put_line(out, expr, order)?;
+            put_lines(walk, levels, out, procedure.get())?;
+            put_lines(walk, levels, out, list.get())
         }
     }
 }
@@ -358,19 +295,16 @@ fn put_lines(
 #[cycle(lines)]
 #[tactic(auto, using(crate::proofs::Views::viewing))]
 fn put_lines_of_all(
-    alloc: Global,
-    marked: &[bool],
-    lambdas: &[Lambda],
-    first: usize,
+    walk: Walk,
     levels: u32,
     out: &mut Vec<OrderLine>,
     exprs: &[Expr],
 ) -> Result<(), NoMemory>
     requires { levels ≤ 1000 }
-    ensures { OnOk result (map view_line out.new.items ≡ map view_line out.old.items ++ orders.lines_all (is_marked marked.now) (orders.lambdas_lines (is_marked marked.now) (map view_lambda lambdas.now) first) (trees (map view exprs.now))) }
+    ensures { OnOk result (map view_line out.new.items ≡ map view_line out.old.items ++ orders.lines_all (marks walk.entry) (lines_inside walk.entry) (trees (map view exprs.now))) }
 {
     for expr in exprs {
-        put_lines(alloc, marked, lambdas, first, levels, out, expr)?;
+        put_lines(walk, levels, out, expr)?;
     }
     Ok(())
 }
@@ -379,19 +313,16 @@ fn put_lines_of_all(
 #[cycle(lines)]
 #[tactic(auto, using(crate::proofs::Views::viewing))]
 fn put_lines_of_lambdas(
-    alloc: Global,
-    marked: &[bool],
-    lambdas: &[Lambda],
-    first: usize,
+    walk: Walk,
     levels: u32,
     out: &mut Vec<OrderLine>,
     numbers: &[LambdaId],
 ) -> Result<(), NoMemory>
     requires { levels ≤ 1000 }
-    ensures { OnOk result (map view_line out.new.items ≡ map view_line out.old.items ++ orders.lines_of_lambdas (orders.lambdas_lines (is_marked marked.now) (map view_lambda lambdas.now) first) numbers.now) }
+    ensures { OnOk result (map view_line out.new.items ≡ map view_line out.old.items ++ orders.lines_of_lambdas (lines_inside walk.entry) numbers.now) }
 {
     for number in numbers {
-        put_lines_of_lambda(alloc, marked, lambdas, first, levels, out, *number)?;
+        put_lines_of_lambda(walk, levels, out, *number)?;
     }
     Ok(())
 }
@@ -400,52 +331,45 @@ fn put_lines_of_lambdas(
 #[cycle(lines)]
 #[tactic(auto, using(crate::proofs::Views::viewing))]
 fn put_lines_of_lambda(
-    alloc: Global,
-    marked: &[bool],
-    lambdas: &[Lambda],
-    first: usize,
+    walk: Walk,
     levels: u32,
     out: &mut Vec<OrderLine>,
     number: LambdaId,
 ) -> Result<(), NoMemory>
     requires { levels ≤ 1000 }
-    ensures { OnOk result (map view_line out.new.items ≡ map view_line out.old.items ++ orders.lambdas_lines (is_marked marked.now) (map view_lambda lambdas.now) first number) }
+    ensures { OnOk result (map view_line out.new.items ≡ map view_line out.old.items ++ lines_inside walk.entry number) }
 {
     let number = number as usize;
-    if number < first || lambdas.len() <= number - first {
+    if number < walk.first || walk.lambdas.len() <= number - walk.first {
         return Ok(());
     }
-    let index = number - first;
-    let lambda = &lambdas[index];
-    put_lines(
-        alloc,
-        marked,
-        after(lambdas, index),
-        number + 1,
-        levels,
-        out,
-        &lambda.body,
-    )
+    let index = number - walk.first;
+    let lambda = &walk.lambdas[index];
+    let inside = Walk {
+        alloc: walk.alloc,
+        marked: walk.marked,
+        lambdas: after(walk.lambdas, index),
+        first: number + 1,
+    };
+    put_lines(inside, levels, out, &lambda.body)
 }
 
 /// The order in which the operands of a program are evaluated: a line for each call, primitive use, application
 /// and `let`, in written order, with the numbers of the operands that are not simple, ascending, and then of
 /// those that are. Operand 0 of a call is its operator. Want of memory is also the answer where nodes nest deeper
-/// than 1,000, which `check` refuses.
+/// than 1,000, or a node has an operand past number 65,535, which `check` refuses.
 pub fn operand_order(alloc: Global, program: &Program) -> Result<Order, NoMemory>
     ensures { IfOk result (λ order. map view_line order ≡ orders.order_of (view_program program.now)) }
 {
     let assigned = targets(alloc, program)?;
     let marked = table(alloc, assigned.as_slice())?;
     let mut out = Vec::new(alloc);
-    put_lines_of_all(
+    let walk = Walk {
         alloc,
-        marked.as_slice(),
-        program.lambdas.as_slice(),
-        0,
-        MAX_DEPTH,
-        &mut out,
-        program.forms.as_slice(),
-    )?;
+        marked: marked.as_slice(),
+        lambdas: program.lambdas.as_slice(),
+        first: 0,
+    };
+    put_lines_of_all(walk, MAX_DEPTH, &mut out, program.forms.as_slice())?;
     Ok(Row::from_vec(out))
 }

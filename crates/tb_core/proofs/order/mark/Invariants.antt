@@ -1,5 +1,5 @@
 use Rattle.std.proofs.Common.{◌≡◌, ℕ, ◌+◌, ◌-◌, vec_len}
-use Rattle.tb_core.specs.Order.{is_marked}
+use Rattle.tb_core.specs.calls.Marks.{is_marked}
 use Rattle.tb_core.proofs.order.mark.Given as goal
 
 abbrev pub invariant-loop-marked : goal.invariant-loop-marked

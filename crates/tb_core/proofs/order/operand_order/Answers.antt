@@ -1,7 +1,7 @@
 use Rattle.std.proofs.Common.{◌≡◌, ◌∙◌, ap, ℕ, arith}
 use Rattle.std.proofs.lemmas.Grind.{common_steps}
 use Rattle.tb_core.specs.FreeVariables.{is_assigned, is_in}
-use Rattle.tb_core.specs.Order.{is_marked}
+use Rattle.tb_core.specs.calls.Marks.{is_marked}
 use Rattle.tb_core.specs.View.{view_program}
 use Rattle.tb_core.proofs.LinesByNumber.{order_by_table}
 use Rattle.tb_core.proofs.order.operand_order.Goals as goal

@@ -1,6 +1,6 @@
 use Rattle.std.proofs.Common.{◌≡◌, ◌+◌, ◌++◌, map, drop}
 use Rattle.tb_core.specs.OperandOrder.{numbers}
-use Rattle.tb_core.specs.Order.{is_marked}
+use Rattle.tb_core.specs.calls.Marks.{is_marked}
 use Rattle.tb_core.specs.View.{view, trees}
 use Rattle.tb_core.proofs.order.put_numbers.Given as goal
 

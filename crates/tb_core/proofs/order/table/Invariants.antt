@@ -1,6 +1,6 @@
 use Rattle.std.proofs.Common.{◌≡◌, ℕ, ◌||◌, drop}
 use Rattle.tb_core.specs.FreeVariables.{is_in}
-use Rattle.tb_core.specs.Order.{is_marked}
+use Rattle.tb_core.specs.calls.Marks.{is_marked}
 use Rattle.tb_core.proofs.order.table.Given as goal
 
 abbrev pub invariant-loop-variable : goal.invariant-loop-variable
