@@ -16,6 +16,7 @@ pub mod Limits
 pub mod FirstUses
 pub mod Order
 pub mod Lifting
+pub mod Variables
 pub mod Rules
 pub mod Examples
 pub mod calls

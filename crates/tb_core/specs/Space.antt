@@ -1,5 +1,5 @@
 -- The space of a configuration of the reference machine, in words (after Clinger 1998): its control, its
--- frames, its globals, and each item that it can still reach, once.
+-- frames, its globals, and each item that is static or that it can still reach, once.
 use Rattle.std.specs.Prelude.{ℕ, ◌+◌, List, [], ◌∷◌, ◌++◌, length, Option, Some, None, slice_get}
 use Rattle.tb_semantics.specs.Graph.{Graph, below, total}
 use Rattle.tb_core.specs.Tree.{ProgramTree}

@@ -1,10 +1,12 @@
-//! The core language, and what it means: the reference machine stands in `specs/`.
+//! The core language and what it means: the types of programs, whose rules stand in specs/Rules; `check`, `width` and
+//! `squared_widths` for its limits (specs/Limits, Width), `free_vars` and `operand_order` (specs/FreeVariables,
+//! OperandOrder). The reference machine stands in specs/Reference; laws and programs that are run have modules.
 #![tactic(auto)]
 
-mod examples;
+pub mod examples;
 mod expr;
 mod free;
-mod laws;
+pub mod laws;
 mod lift_set;
 mod limits;
 mod order;
@@ -12,17 +14,8 @@ mod program;
 mod rules;
 mod widths;
 
-pub use examples::{
-    worked_closures, worked_limits, worked_objects, worked_orders, worked_primitives,
-    worked_programs, worked_spaces, worked_widths,
-};
 pub use expr::{Core, Expr, ExprRow, LambdaId, LambdaIdRow, Site, VarId, VarRow};
 pub use free::free_vars;
-pub use laws::{
-    cut_keeps_listed, cut_to_fewer, emits_in_order, ends_last, first_uses_once, free_of_lambda,
-    made_only_grows, no_run_is_lost, order_at_nodes, primitives_in_partnered_stores,
-    space_counts_once, space_is_within_made, stopped_stays, windows_are_finite,
-};
 pub use lift_set::{LiftLine, LiftSet};
 pub use limits::{CoreRefusal, check};
 pub use order::{IndexRow, Order, OrderLine, operand_order};

@@ -7,7 +7,7 @@ use Rattle.tb_prim.specs.declared.primitive.Primitive.TheVariants.{WriteChar, Ad
 use Rattle.tb_prim.specs.Primitives.{arity_of}
 use Rattle.tb_core.specs.Tree.{Tree, Node, Quote, Local, If, Let, Seq, PrimUse, Trees, none, more, count}
 use Rattle.tb_core.specs.Width.{nodes, nodes_all}
-use Rattle.tb_core.specs.Rules.{bound, bound_all}
+use Rattle.tb_core.specs.Variables.{bound, bound_all}
 use Rattle.tb_prim.specs.Fixnums.{is_fixnum}
 use Rattle.tb_sexp.specs.Tree as datum
 use Rattle.tb_forms.specs.Scopes.{Scope, no_names, number_in, bind, numbers_of, is_variable, differ}

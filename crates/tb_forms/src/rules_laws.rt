@@ -6,7 +6,7 @@ ghost use Rattle.tb_sexp.specs.Tree as datum;
 ghost use Rattle.tb_small.specs.Compiled.{IsSmall};
 ghost use Rattle.tb_small.specs.Generate.{program_of};
 
-use tb_core::order_at_nodes;
+use tb_core::laws::order_at_nodes;
 use tb_small_mac::immediates_are_read_back;
 
 /// The expressions of a text keep the rules of programs.
