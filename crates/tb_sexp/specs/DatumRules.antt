@@ -24,9 +24,11 @@ mutual
     lawful_fixnum : {p : Place} {z : ℤ} → is_fixnum z ≡ true → IsLawful (At p (Fixnum z))
     lawful_character : {p : Place} {c : ℕ} → IsLawful (At p (Character c))
     lawful_string : {p : Place} {s : List ℕ} → IsLawful (At p (String s))
-    lawful_name : {p : Place} {s : List ℕ} {alias : ℕ} → 1 ≤ length s → length s ≤ 255 → IsLawful (At p (Name s alias))
+    lawful_name : {p : Place} {s : List ℕ} {alias : ℕ} → 1 ≤ length s → length s ≤ 255 →
+        IsLawful (At p (Name s alias))
     lawful_list : {p : Place} {d : Tree} {ds : Trees} → AreLawful (more d ds) → IsLawful (At p (Proper (more d ds)))
-    lawful_dotted : {p q : Place} {d : Tree} {ds : Trees} {s : Shape} → AreLawful (more d ds) → IsLawful (At q s) → is_list s ≡ false →
+    lawful_dotted : {p q : Place} {d : Tree} {ds : Trees} {s : Shape} → AreLawful (more d ds) → IsLawful (At q s) →
+        is_list s ≡ false →
         IsLawful (At p (Dotted (more d ds) (At q s)))
     lawful_vector : {p : Place} {ds : Trees} → AreLawful ds → IsLawful (At p (Vector ds))
 

@@ -20,9 +20,11 @@ use Rattle.tb_twobit.specs.Refusals.{refusal, IsAccepted, IsRefusedWith, not_bui
 -- a text spells one row of data or has one refusal
 pub record TextLaws : Type 0 where
   pub one_reading : (text : List ℕ) (ds es : List datum.Tree) → IsText false text ds → IsText false text es → ds ≡ es
-  pub not_both : (text : List ℕ) (ds : List datum.Tree) (e : ReadRefusal) → IsText false text ds → IsRefused false text e → ⊥
+  pub not_both : (text : List ℕ) (ds : List datum.Tree) (e : ReadRefusal) → IsText false text ds →
+      IsRefused false text e → ⊥
   pub one_refusal : (text : List ℕ) (e f : ReadRefusal) → IsRefused false text e → IsRefused false text f → e ≡ f
-  pub covered : (text : List ℕ) → ((ds : List datum.Tree) × IsText false text ds) ⊎ ((e : ReadRefusal) × IsRefused false text e)
+  pub covered : (text : List ℕ) →
+      ((ds : List datum.Tree) × IsText false text ds) ⊎ ((e : ReadRefusal) × IsRefused false text e)
 
 -- data are accepted with one list of expressions or are refused at one place
 pub record DataLaws : Type 0 where
@@ -43,7 +45,8 @@ said reading.NoMemory = None
 -- why a text is refused: while it is read, or at a datum
 data Why (bytes : List ℕ) (r : Refusal) : Type 0 where
   unread : (e : ReadRefusal) → IsRefused false bytes e → said e ≡ Some r → Why bytes r
-  unbuilt : (p : Place) (ds : List datum.Tree) → IsText false bytes ds → FirstNotBuilt (sexp.trees ds) p → r ≡ refusal kind.NotBuilt p → Why bytes r
+  unbuilt : (p : Place) (ds : List datum.Tree) → IsText false bytes ds → FirstNotBuilt (sexp.trees ds) p →
+      r ≡ refusal kind.NotBuilt p → Why bytes r
 
 why : (bytes : List ℕ) (r : Refusal) → IsRefusedWith bytes r → Why bytes r
 why bytes _ (refused.syntax {p = p} h) = unread (reading.Syntax p) h refl
@@ -87,15 +90,18 @@ unfolding refusal_or
 same_said r s e = ap (refusal_or r) e
 
 -- no text is both
-accepted_or_not : (texts : TextLaws) (forms : DataLaws) (bytes : List ℕ) (es : Trees) (r : Refusal) → IsAccepted bytes es → Why bytes r → ⊥
+accepted_or_not : (texts : TextLaws) (forms : DataLaws) (bytes : List ℕ) (es : Trees) (r : Refusal) →
+    IsAccepted bytes es → Why bytes r → ⊥
 accepted_or_not texts forms bytes es r a (unread e h s) = texts.not_both bytes a.elements e a.text h
 accepted_or_not texts forms bytes es r a (unbuilt p ds t f s) =
     forms.not_both (sexp.trees ds) es p (subst (λ ds. AreAccepted (sexp.trees ds) es) (texts.one_reading bytes a.elements ds a.text t) a.built) f
 
-pub not_both : (texts : TextLaws) (forms : DataLaws) (bytes : List ℕ) (es : Trees) (r : Refusal) → IsAccepted bytes es → IsRefusedWith bytes r → ⊥
+pub not_both : (texts : TextLaws) (forms : DataLaws) (bytes : List ℕ) (es : Trees) (r : Refusal) →
+    IsAccepted bytes es → IsRefusedWith bytes r → ⊥
 not_both texts forms bytes es r a h = accepted_or_not texts forms bytes es r a (why bytes r h)
 
-pub one_program : (texts : TextLaws) (forms : DataLaws) (bytes : List ℕ) (f g : Trees) → IsAccepted bytes f → IsAccepted bytes g → f ≡ g
+pub one_program : (texts : TextLaws) (forms : DataLaws) (bytes : List ℕ) (f g : Trees) → IsAccepted bytes f →
+    IsAccepted bytes g → f ≡ g
 one_program texts forms bytes f g a b =
     forms.one_program (sexp.trees b.elements) f g (subst (λ ds. AreAccepted (sexp.trees ds) f) (texts.one_reading bytes a.elements b.elements a.text b.text) a.built) b.built
 
@@ -106,19 +112,23 @@ one_why texts forms bytes r s (unbuilt p ds t h a) (unread f g b) = absurd (text
 one_why texts forms bytes r s (unbuilt p ds t h a) (unbuilt q es u g b) =
     a ∙ ap (refusal kind.NotBuilt) (forms.one_refusal (sexp.trees es) p q (subst (λ ds. FirstNotBuilt (sexp.trees ds) p) (texts.one_reading bytes ds es t u) h) g) ∙ sym b
 
-pub one_refusal : (texts : TextLaws) (forms : DataLaws) (bytes : List ℕ) (r s : Refusal) → IsRefusedWith bytes r → IsRefusedWith bytes s → r ≡ s
+pub one_refusal : (texts : TextLaws) (forms : DataLaws) (bytes : List ℕ) (r s : Refusal) → IsRefusedWith bytes r →
+    IsRefusedWith bytes s → r ≡ s
 one_refusal texts forms bytes r s h g = one_why texts forms bytes r s (why bytes r h) (why bytes s g)
 
 -- every text is one of the two
-built_or_not : (bytes : List ℕ) (ds : List datum.Tree) → IsText false bytes ds → ((es : Trees) × AreAccepted (sexp.trees ds) es) ⊎ ((p : Place) × FirstNotBuilt (sexp.trees ds) p) →
+built_or_not : (bytes : List ℕ) (ds : List datum.Tree) → IsText false bytes ds →
+    ((es : Trees) × AreAccepted (sexp.trees ds) es) ⊎ ((p : Place) × FirstNotBuilt (sexp.trees ds) p) →
     ((es : Trees) × IsAccepted bytes es) ⊎ ((r : Refusal) × IsRefusedWith bytes r)
 built_or_not bytes ds t (inl a) = inl (a.0, record { elements = ds; text = t; built = a.1 })
 built_or_not bytes ds t (inr f) = inr (refusal kind.NotBuilt f.0, not_built ds t f.1)
 
-read_or_not : (forms : DataLaws) (bytes : List ℕ) → ((ds : List datum.Tree) × IsText false bytes ds) ⊎ ((e : ReadRefusal) × IsRefused false bytes e) →
+read_or_not : (forms : DataLaws) (bytes : List ℕ) →
+    ((ds : List datum.Tree) × IsText false bytes ds) ⊎ ((e : ReadRefusal) × IsRefused false bytes e) →
     ((es : Trees) × IsAccepted bytes es) ⊎ ((r : Refusal) × IsRefusedWith bytes r)
 read_or_not forms bytes (inl t) = built_or_not bytes t.0 t.1 (forms.covered (sexp.trees t.0))
 read_or_not forms bytes (inr h) = inr (refused_so bytes h.0 h.1)
 
-pub covered : (texts : TextLaws) (forms : DataLaws) (bytes : List ℕ) → ((es : Trees) × IsAccepted bytes es) ⊎ ((r : Refusal) × IsRefusedWith bytes r)
+pub covered : (texts : TextLaws) (forms : DataLaws) (bytes : List ℕ) →
+    ((es : Trees) × IsAccepted bytes es) ⊎ ((r : Refusal) × IsRefusedWith bytes r)
 covered texts forms bytes = read_or_not forms bytes (texts.covered bytes)

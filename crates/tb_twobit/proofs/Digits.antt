@@ -11,11 +11,13 @@ value_from-grows n [] = omega arith
 value_from-grows n (d ∷ ds) = let h = value_from-grows (n * 10 + (d - 48)) ds in omega arith
 
 -- one more digit
-pub value_from-drop : (n i : ℕ) (ds : List ℕ) → i < length ds → value_from n (drop i ds) ≡ value_from (n * 10 + (get_or ds i 0 - 48)) (drop (i + 1) ds)
+pub value_from-drop : (n i : ℕ) (ds : List ℕ) → i < length ds →
+    value_from n (drop i ds) ≡ value_from (n * 10 + (get_or ds i 0 - 48)) (drop (i + 1) ds)
 value_from-drop n i ds h = rw (add-one, drop-cons ds i 0) refl
 
 -- a number that is too large already stays so
-pub value_from-too_large : (n i total : ℕ) (ds : List ℕ) → i < length ds → value_from n (drop i ds) ≡ total → (n * 10 + (get_or ds i 0 - 48) < 2 ^ 64 → ⊥) → total < 2 ^ 64 → ⊥
+pub value_from-too_large : (n i total : ℕ) (ds : List ℕ) → i < length ds → value_from n (drop i ds) ≡ total →
+    (n * 10 + (get_or ds i 0 - 48) < 2 ^ 64 → ⊥) → total < 2 ^ 64 → ⊥
 value_from-too_large n i total ds h e large small =
     let grows = value_from-grows (n * 10 + (get_or ds i 0 - 48)) (drop (i + 1) ds) in
     let same = value_from-drop n i ds h in

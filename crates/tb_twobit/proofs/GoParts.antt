@@ -28,12 +28,14 @@ not_read bytes (reading.TooBig p) h = too_big h
 not_read bytes reading.NoMemory h = tt
 
 -- a text that is read and has a datum that is no form is refused at it
-pub not_formed : (bytes : List ℕ) (ds : List Tree) (e : FormRefusal) → IsText false bytes ds → IsRefusal (sexp.trees ds) e → IsNotCompiled bytes (of_forms e)
+pub not_formed : (bytes : List ℕ) (ds : List Tree) (e : FormRefusal) → IsText false bytes ds →
+    IsRefusal (sexp.trees ds) e → IsNotCompiled bytes (of_forms e)
 not_formed bytes ds (forms.NotBuilt p) text h = not_built ds text h
 not_formed bytes ds forms.NoMemory text h = tt
 
 -- the command never ends in the status of usage
-run_is_not_usage : (fs : Trees) (state : MacState) (taken steps : ℕ) (out diag : Sunk) (status : ℕ) → RunEnds fs state taken steps out diag status → status ≡ 2 → ⊥
+run_is_not_usage : (fs : Trees) (state : MacState) (taken steps : ℕ) (out diag : Sunk) (status : ℕ) →
+    RunEnds fs state taken steps out diag status → status ≡ 2 → ⊥
 run_is_not_usage fs state taken steps out diag _ (does.ended front a b d) e = omega arith
 run_is_not_usage fs state taken steps out diag _ (does.not_put es a b d p f h) e = omega arith
 run_is_not_usage fs state taken steps out diag _ (does.failed front c p a b d) e = omega arith
@@ -47,6 +49,7 @@ is_not_usage go o _ (does.refused bytes r a b d f) e = omega arith
 is_not_usage go o _ (does.ran bytes fs a b r) e = run_is_not_usage _ _ _ _ _ _ _ r.ends e
 
 -- an error of which something is known
-pub err_so : {T E : Type 0} (r : Result T E) (P : T → Type 0) (Q R : E → Type 0) → IsErrAnd r R → ((e : E) → R e → Q e) → MatchResult r P Q
+pub err_so : {T E : Type 0} (r : Result T E) (P : T → Type 0) (Q R : E → Type 0) → IsErrAnd r R →
+    ((e : E) → R e → Q e) → MatchResult r P Q
 err_so (Ok t) P Q R h f = absurd h
 err_so (Err e) P Q R h f = f e h

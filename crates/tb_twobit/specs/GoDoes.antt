@@ -63,7 +63,8 @@ pub data RunEnds (forms : Trees) (state : MacState) (taken steps : ℕ) (out dia
       state ≡ Halted m (Stop.Fail c p) (front ++ Event.Fail c p ∷ []) → All IsPassing front →
       Said diag (failed_line c p) → RunEnds forms state taken steps out diag 6
   -- status 8 where the steps were made without another stop
-  out_of_steps : {m : Mac} (es : List Event) → state ≡ Going m es → All IsPassing es → taken ≡ steps → Gained diag [] →
+  out_of_steps : {m : Mac} (es : List Event) → state ≡ Going m es → All IsPassing es → taken ≡ steps →
+      Gained diag [] →
       RunEnds forms state taken steps out diag 8
 
 -- so many steps are always enough: where the reference emits a list of j + 1 events and then stands still, a run
@@ -79,7 +80,8 @@ pub record Runs (go : Go) (forms : Trees) (out diag : Sunk) (status : ℕ) : Typ
   pub taken : ℕ
   pub within : taken ≤ go.steps
   pub moment : ℕ
-  pub like_reference : mac.events_of (after (machine_of go forms) taken) ≡ ref.events_of (after (reference_of forms) moment)
+  pub like_reference : mac.events_of (after (machine_of go forms) taken)
+      ≡ ref.events_of (after (reference_of forms) moment)
   pub put : Gained out (puts (mac.events_of (after (machine_of go forms) taken)))
   pub ends : RunEnds forms (after (machine_of go forms) taken) taken go.steps out diag status
   pub needs_no_more : NeedsNoMore forms go.steps status

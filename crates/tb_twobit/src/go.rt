@@ -13,7 +13,6 @@ use super::lines::say_refused;
 use super::refusal::CompileRefusal;
 use super::run::run_code;
 use super::status::Status;
-
 use std::alloc::Global;
 use tb_base::{LoadFault, Sink, Source, Store};
 use tb_forms::forms_are_small;
@@ -33,11 +32,12 @@ pub fn go<S: Store, I: Source, O: Sink, E: Sink>(
     diag: &mut E,
 ) -> Status
     ensures does { GoDoes (go_within source.now limits) (record {
-        files = S.files store.old;
-        loads = S.load_faults store.old source.now;
-        loads_now = S.load_faults store.new source.now;
-        out = sunk O.held O.faults out.old out.new;
-        diag = sunk E.held E.faults diag.old diag.new }) (number result) }
+      files = S.files store.old;
+      loads = S.load_faults store.old source.now;
+      loads_now = S.load_faults store.new source.now;
+      out = sunk O.held O.faults out.old out.new;
+      diag = sunk E.held E.faults diag.old diag.new;
+    }) (number result) }
     ensures files { S.files store.new ≡ S.files store.old }
     ensures loads { CountsOnly (S.load_faults store.old) (S.load_faults store.new) source.now }
     ensures saves { SameCounts (S.save_faults store.old) (S.save_faults store.new) }

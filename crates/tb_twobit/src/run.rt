@@ -7,7 +7,6 @@ ghost use Rattle.tb_twobit.specs.calls.Running.{Finishes, RunsCode};
 use super::limits::Limits;
 use super::lines::say_failed;
 use super::status::Status;
-
 use std::alloc::Global;
 use tb_base::{Sink, Source};
 use tb_prim::Stop;

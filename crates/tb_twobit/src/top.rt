@@ -25,11 +25,12 @@ pub fn twobit<S: Store, I: Source, O: Sink, E: Sink>(
 ) -> u8
     ensures usage { (result ≡ 2) ↔ (command_of (map (λ w. w.now) words.now) ≡ None) }
     ensures go { IfSome (command_of (map (λ w. w.now) words.now)) (λ command. GoDoes command (record {
-        files = S.files store.old;
-        loads = S.load_faults store.old command.source;
-        loads_now = S.load_faults store.new command.source;
-        out = sunk O.held O.faults out.old out.new;
-        diag = sunk E.held E.faults diag.old diag.new }) result) }
+      files = S.files store.old;
+      loads = S.load_faults store.old command.source;
+      loads_now = S.load_faults store.new command.source;
+      out = sunk O.held O.faults out.old out.new;
+      diag = sunk E.held E.faults diag.old diag.new;
+    }) result) }
 
     // With words that are no command nothing is put, said or loaded.
     ensures nothing_put { result ≡ 2 → out.new ≡ out.old }

@@ -31,13 +31,15 @@ Finishes Stop.ReadFault diag status = Silently diag status S.NotLoaded
 Finishes Stop.WriteFault diag status = Silently diag status S.NotPut
 
 -- the machine ran from its start in a memory of so many words, for at most so many steps
-pub record Ran (code : List Instr) (places : List PlaceEntry) (heap steps : ℕ) (out diag : Sunk) (status : Status) : Type 0 where
+pub record Ran (code : List Instr) (places : List PlaceEntry) (heap steps : ℕ) (out diag : Sunk)
+    (status : Status) : Type 0 where
   pub new : Mac
   pub stop : Stop
   pub does : RunDoes code places (mac_start heap) new out.before out.now out.faults out.faults_now steps stop
   pub finishes : Finishes stop diag status
 
 -- it ran, or there was no memory for its heap
-pub data RunsCode (code : List Instr) (places : List PlaceEntry) (heap steps : ℕ) (out diag : Sunk) (status : Status) : Type 0 where
+pub data RunsCode (code : List Instr) (places : List PlaceEntry) (heap steps : ℕ) (out diag : Sunk)
+    (status : Status) : Type 0 where
   no_heap : status ≡ S.NoMemory → Gained out [] → Gained diag [] → RunsCode code places heap steps out diag status
   code_ran : Ran code places heap steps out diag status → RunsCode code places heap steps out diag status

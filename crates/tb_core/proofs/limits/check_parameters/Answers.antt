@@ -9,7 +9,8 @@ use Rattle.tb_core.proofs.Judging.{judge_first, judge_none}
 use Rattle.tb_core.proofs.limits.check_parameters.Goals as goal
 
 -- a lambda expression of the table, as the definition has it
-there : (ls : List Lambda) (n : ℕ) (l : Lambda) → n < length ls → l ≡ get_or ls n l → slice_get (map view_lambda ls) n ≡ Some (view_lambda l)
+there : (ls : List Lambda) (n : ℕ) (l : Lambda) → n < length ls → l ≡ get_or ls n l →
+    slice_get (map view_lambda ls) n ≡ Some (view_lambda l)
 there ls n l lt is = slice_get-map view_lambda ls n ∙ ap (option_map view_lambda) (slice_get-get_or ls n l lt ∙ ap Some (sym is))
 
 past : (ls : List Lambda) (n : ℕ) → length ls ≤ n → slice_get (map view_lambda ls) n ≡ None

@@ -10,7 +10,8 @@ pub returns-clause-line : goal.returns-clause-line
 returns-clause-line g c =
     said (sunk g.E.Sink.held g.E.Sink.faults c.args.diag.now c.put_placed.new.diag) (refused_line c.args.refusal)
     c.put_placed.result
-    (subst (λ n. PutsAll (g.E.Sink.held c.args.diag.now) (g.E.Sink.held c.put_placed.new.diag) (placed_line (codes "refused ") n c.args.refusal.place) c.put_placed.result)
+    (subst (λ n. PutsAll (g.E.Sink.held c.args.diag.now) (g.E.Sink.held c.put_placed.new.diag)
+    (placed_line (codes "refused ") n c.args.refusal.place) c.put_placed.result)
     c.number.ensures c.put_placed.ensures.bytes) c.put_placed.ensures.cause
 
 pub returns-clause-later : goal.returns-clause-later
