@@ -9,3 +9,4 @@ pub mod Simple
 pub mod Lines
 pub mod Nodes
 pub mod Moves
+pub mod Step

@@ -66,9 +66,9 @@ module _ (p : ProgramTree) (input : List ℕ) (w : World Value) (c : T.TreeConfi
   gives_read q _ _ es Like.end_object f = goes p input w c d k _ _ _ _ es (Rel.val Like.end_object) f
   gives_read q _ _ es (Like.at i) f = goes p input w c d k _ _ _ _ es (Rel.val (Like.at i)) f
 
-  reads_plain : (q : Place) (y : ℕ) (v : Value) (s : ℕ) (r : M.Env) (h : S.Env) (es : List Event) → M.lookup r y ≡ Some v → S.lookup h y ≡ Some s → VarRel w false v s → FramesRel p w c.frames d.frames → Goes p input (R.read_value d q (R.local_value (S.lookup h y) d.store) es) (M.give_value c (M.lookup r y) es)
-  reads_plain q y v s r h es a b (Rel.in_cell e i) f = absurd (both_ways false refl e)
-  reads_plain q y v s r h es a b (Rel.plain e i) f =
+  pub reads-plain : (q : Place) (y : ℕ) (v : Value) (s : ℕ) (r : M.Env) (h : S.Env) (es : List Event) → M.lookup r y ≡ Some v → S.lookup h y ≡ Some s → VarRel w false v s → FramesRel p w c.frames d.frames → Goes p input (R.read_value d q (R.local_value (S.lookup h y) d.store) es) (M.give_value c (M.lookup r y) es)
+  reads-plain q y v s r h es a b (Rel.in_cell e i) f = absurd (both_ways false refl e)
+  reads-plain q y v s r h es a b (Rel.plain e i) f =
       let there = holds-for p w c.store d.store (source_roots p d) k.stores s v i in
       subst₂ (λ o n. Goes p input (R.read_value d q (R.local_value o d.store) es) (M.give_value c n es)) (sym b) (sym a)
       (subst (λ o. Goes p input (R.read_value d q (R.held_value o) es) (M.give_value c (Some v) es)) (sym there.1)

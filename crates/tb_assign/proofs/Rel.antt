@@ -5,7 +5,7 @@ use Rattle.tb_prim.specs.declared.place.Place.{Place}
 use Rattle.tb_prim.specs.declared.event.Event.{Event}
 use Rattle.tb_semantics.specs.Graph.{IsIn, IsApart}
 use Rattle.tb_semantics.proofs.Worlds.{Entry, Both, Only, World, Grows, Items, Stores}
-use Rattle.tb_core.specs.Tree.{Tree, Node, Form, Let, Letrec, Trees, LambdaTree, ProgramTree, parameters, tree_at}
+use Rattle.tb_core.specs.Tree.{Tree, Node, Form, SetLocal, Let, Letrec, Trees, LambdaTree, ProgramTree, parameters, tree_at}
 use Rattle.tb_core.specs.FreeVariables.{free, lambda_free, inner_free, is_assigned}
 use Rattle.tb_core.specs.OperandOrder.{HasLine, has_order, line_at, order_of}
 use Rattle.tb_core.specs.Rules.{Each, EachForm, EachAll, NodeKeeps, StaticsKeep, NoMark, is_mark}
@@ -20,7 +20,7 @@ use Rattle.tb_ir.specs.TreeMachine as T
 use Rattle.tb_assign.specs.Eliminate.{celled, cell_name, eliminate, eliminate_form, eliminate_all, cells_of}
 use Rattle.tb_assign.proofs.Free.{NamesSmall, SmallLambdas, AreSmall}
 
--- the variables that are bound in a body are apart and have numbers of the program, and those that are assigned
+-- a variable that is set is assigned; the variables that are bound in a body are apart and have numbers of the program, and those that are assigned
 -- are named in it
 pub record BindsWell (p : ProgramTree) (xs : List ℕ) (e : Tree) : Type 0 where
   pub apart : IsApart xs
@@ -30,6 +30,7 @@ pub record BindsWell (p : ProgramTree) (xs : List ℕ) (e : Tree) : Type 0 where
 abbrev pub BindsIn : ProgramTree → Form → Type 0
 BindsIn p (Let xs es e) = BindsWell p xs e
 BindsIn p (Letrec xs ls e) = BindsWell p xs e
+BindsIn p (SetLocal x e) = is_assigned p x ≡ true
 BindsIn p f = Unit {0}
 
 -- what the simulation needs of a node, and of a program
