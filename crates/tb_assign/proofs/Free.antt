@@ -142,7 +142,7 @@ module _ (g : ℕ → Bool) where
     new-cells-free p (x ∷ xs) y (inr i) = let r = new-cells-free p xs y i in (r.0, inr r.1, r.2)
 
     -- what a body with cells names
-    cells-to : (p : Place) (s : ℕ) (xs : List ℕ) (e : C.Tree) (y : ℕ) → IsIn y (F.free J (bind_cells g p s xs e)) → (IsIn y (F.free J e) × (IsIn y xs → ⊥)) ⊎ ((a : ℕ) × IsIn a xs × (y ≡ fresh a))
+    pub cells-to : (p : Place) (s : ℕ) (xs : List ℕ) (e : C.Tree) (y : ℕ) → IsIn y (F.free J (bind_cells g p s xs e)) → (IsIn y (F.free J e) × (IsIn y xs → ⊥)) ⊎ ((a : ℕ) × IsIn a xs × (y ≡ fresh a))
     cells-to p s [] e y i = inl (i, λ j. absurd j)
     cells-to p s (x ∷ xs) e y i =
         ⊎_elim

@@ -10,3 +10,4 @@ pub mod Lines
 pub mod Nodes
 pub mod Moves
 pub mod Step
+pub mod Bound
