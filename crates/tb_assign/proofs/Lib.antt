@@ -11,3 +11,4 @@ pub mod Nodes
 pub mod Moves
 pub mod Step
 pub mod Bound
+pub mod Making

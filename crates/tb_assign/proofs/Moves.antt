@@ -84,7 +84,7 @@ module _ (p : ProgramTree) (input : List ℕ) (w : World Value) (c : T.TreeConfi
       (match-one w (sources p w d.store (source_roots p d)) t s i)
 
 -- the program with cells takes a step by itself
-alone_to : (p : ProgramTree) (input : List ℕ) (w : World Value) (t u : T.TreeState) (s : R.State) → step p t ≡ u → M.events_of t ≡ R.events_of s → Held p w (M.config_of t) (R.config_of s) → pending_state u < pending_state t → Goes p input s u → Goes p input s t
+pub alone_to : (p : ProgramTree) (input : List ℕ) (w : World Value) (t u : T.TreeState) (s : R.State) → step p t ≡ u → M.events_of t ≡ R.events_of s → Held p w (M.config_of t) (R.config_of s) → pending_state u < pending_state t → Goes p input s u → Goes p input s t
 alone_to p input w t u s e ev h lt n = alone (alike-held p w input t s ev h) (subst (λ v. pending_state v < pending_state t) (sym e) lt) (subst (Goes p input s) (sym e) n)
 
 module _ (p : ProgramTree) (input : List ℕ) (w : World Value) (c : T.TreeConfig) (d : R.Config) (k : Ground p w c d) (f : FramesRel p w c.frames d.frames) where
