@@ -198,3 +198,25 @@ module _ (p : ProgramTree) where
       other_place w x a v xs vs r n h other (name_other x a la other) (value-at w (suc n) xs vs ts r h a k (⊎_elim (λ q. absurd (eqb-false x a other q)) (λ m. m) i) y la)
   value-at w n _ _ _ r h a (a_value {x = x} {v = v} {xs = xs} {vs = vs} {ts = ts} e j k) i y la =
       value_first w x a v xs vs r n h (x == a) refl e la j (λ q. value-at w (suc n) xs vs ts r h a k (⊎_elim (λ z. absurd (eqb-false x a q z)) (λ m. m) i) y la)
+
+  -- the values of a list by their places in it
+  pub nth-bound : (xs : List ℕ) (vs : List Value) (r : M.Env) (n : ℕ) (h : S.Env) (i x : ℕ) (v : Value) → IsApart xs → AreSmall xs → slice_get xs i ≡ Some x → slice_get vs i ≡ Some v →
+      IsIn x xs × (M.lookup (M.bind_all (renamed g xs) vs r) (name x) ≡ Some v) × (S.lookup (S.bind_from xs n h) x ≡ Some (n + i))
+  nth-bound [] vs r n h i x v ap' small l m = cc
+  nth-bound (y ∷ xs) [] r n h i x v ap' small l m = cc
+  nth-bound (y ∷ xs) (u ∷ vs) r n h zero x v ap' small l m =
+      let e : y ≡ x = same_Some y x l in
+      let f : (y == x) ≡ true = eq-eqb y x e in
+      (
+        inl e,
+        ap (λ b. cond b (Some u) (M.lookup (M.bind_all (renamed g xs) vs r) (name x))) (eq-eqb (name y) (name x) (ap name e)) ∙ m,
+        ap (λ b. cond b (Some n) (S.lookup (S.bind_from xs (suc n) h) x)) f ∙ ap Some (let t : n ≡ n + 0 = omega arith in t),
+      )
+  nth-bound (y ∷ xs) (u ∷ vs) r n h (suc i) x v ap' small l m =
+      let k = nth-bound xs vs r (suc n) h i x v ap'.1 (λ z j. small z (inr j)) l m in
+      let other : (y == x) ≡ false = ⊎_elim (λ s. absurd (ap'.0 (subst (λ z. IsIn z xs) (sym (eqb-true y x s)) k.0))) (λ t. t) (cases_Bool (y == x)) in
+      (
+        inr k.0,
+        ap (λ b. cond b (Some u) (M.lookup (M.bind_all (renamed g xs) vs r) (name x))) (names_apart y x (small y (inl refl)) (small x (inr k.0)) other) ∙ k.1,
+        ap (λ b. cond b (Some n) (S.lookup (S.bind_from xs (suc n) h) x)) other ∙ k.2 ∙ ap Some (let t : suc n + i ≡ n + suc i = omega arith in t),
+      )

@@ -12,3 +12,4 @@ pub mod Moves
 pub mod Step
 pub mod Bound
 pub mod Making
+pub mod Bodies

@@ -159,68 +159,68 @@ module _ (p : ProgramTree) (w : World Value) (ss : List S.Item) (roots : List �
 module _ (p : ProgramTree) (input : List ℕ) (q : Place) (site : ℕ) (xs : List ℕ) (e : Tree) (vs : List Value) (r : M.Env) (h : S.Env)
     (fs : List (M.Frame T.TreeWork)) (hs : List R.Frame) (es : List Event) (d : R.Config) (all_us : List Value)
     (noline : T.line_of (order_of p) site ≡ None) where
-  abbrev g : ℕ → Bool
+  abbrev pub g : ℕ → Bool
   g = is_assigned p
 
-  abbrev n0 : ℕ
+  abbrev pub n0 : ℕ
   n0 = length d.store
 
-  abbrev body_env : S.Env
+  abbrev pub body_env : S.Env
   body_env = S.cut (free (inner_free p) e) (S.bind_from xs n0 h)
 
-  abbrev made : R.Config
+  abbrev pub made : R.Config
   made = record d { control = R.Eval e body_env; frames = hs; store = d.store ++ R.vars all_us }
 
-  abbrev waits : R.State
+  abbrev pub waits : R.State
   waits = R.Running made es
 
-  abbrev body : C.Tree
+  abbrev pub body : C.Tree
   body = eliminate g e
 
-  abbrev cs0 : List ℕ
+  abbrev pub cs0 : List ℕ
   cs0 = celled g xs
 
-  abbrev F0 : C.Form
+  abbrev pub F0 : C.Form
   F0 = C.Let cs0 (new_cells g q cs0) body
 
-  abbrev all : List ℕ
+  abbrev pub all : List ℕ
   all = T.numbers_from 0 (C.count (new_cells g q cs0))
 
   -- the cells of some of the list are made, with these values in the frame, and those of the rest are not
-  abbrev stage : T.TreeConfig → List Value → M.Env → List ℕ → T.TreeState
+  abbrev pub stage : T.TreeConfig → List Value → M.Env → List ℕ → T.TreeState
   stage c ts z cs = T.operands_left (target p) c q site F0 ts z all (T.numbers_from (length ts) (length cs)) fs es
 
-  abbrev later : M.Env → List Value → List ℕ → List ℕ
+  abbrev pub later : M.Env → List Value → List ℕ → List ℕ
   later z ts cs = T.free_of_numbers (target p) (new_cells g q cs0) (T.numbers_from (suc (length ts)) (length cs)) ++ T.free_of_body (target p) F0
 
-  abbrev let_frame : List Value → M.Env → M.Frame T.TreeWork
+  abbrev pub let_frame : List Value → M.Env → M.Frame T.TreeWork
   let_frame ts z = record { marked = false; work = M.Own (T.Args q site F0 ts z) }
 
-  abbrev cell_frame : ℕ → M.Frame T.TreeWork
+  abbrev pub cell_frame : ℕ → M.Frame T.TreeWork
   cell_frame x = record { marked = false; work = M.Own (T.Args q (cell_site x) (C.NewCell (C.Node q (operand_site x) (C.Local (fresh x)))) [] M.Empty) }
 
-  abbrev Reaches_all : World Value → List Value → Type 0
+  abbrev pub Reaches_all : World Value → List Value → Type 0
   Reaches_all w us = AllReached w made.store body_env us
 
   -- what such a configuration holds
-  held_making : (w : World Value) (c : T.TreeConfig) (own : List (M.Frame T.TreeWork)) (us : List Value) → Ground p w c made → FramesRel p w fs hs → c.frames ≡ own ++ fs → V.marks (own ++ fs) ≡ V.marks fs → V.control_locations c.control ++ V.frames_locations T.work_values (own ++ fs) ≡ values_locations us ++ V.frames_locations T.work_values fs → Reaches_all w us → Held p w c made
+  pub held_making : (w : World Value) (c : T.TreeConfig) (own : List (M.Frame T.TreeWork)) (us : List Value) → Ground p w c made → FramesRel p w fs hs → c.frames ≡ own ++ fs → V.marks (own ++ fs) ≡ V.marks fs → V.control_locations c.control ++ V.frames_locations T.work_values (own ++ fs) ≡ values_locations us ++ V.frames_locations T.work_values fs → Reaches_all w us → Held p w c made
   held_making w c own us k f e m eq a =
       held-by p w c made k fs (values_locations us) f (ap V.marks e ∙ m)
       (match-reached p w made.store (source_roots p made) (holds-for p w c.store made.store (source_roots p made) k.stores) body_env us a)
       (ap (λ gs. V.control_locations c.control ++ V.frames_locations T.work_values gs) e ∙ eq)
 
   -- the measure of such a state
-  abbrev bound : List ℕ → ℕ
+  abbrev pub bound : List ℕ → ℕ
   bound cs = 4 + (5 * length cs + (pending body + pending_frames fs))
 
-  abbrev Made : T.TreeState → List ℕ → Type 0
+  abbrev pub Made : T.TreeState → List ℕ → Type 0
   Made t cs = Goes p input waits t × (pending_state t ≤ bound cs)
 
   locations_two : (us ts : List Value) (ls : List ℕ) → values_locations us ++ (values_locations ts ++ ls) ≡ values_locations (us ++ ts) ++ ls
   locations_two us ts ls = sym (append_assoc (values_locations us) (values_locations ts) ls) ∙ ap (λ ks. ks ++ ls) (sym (values_append us ts))
 
   -- one cell is made
-  one_cell : (w w4 : World Value) (c : T.TreeConfig) (ts : List Value) (z : M.Env) (x : ℕ) (cs ds : List ℕ) (v : Value) →
+  pub one_cell : (w w4 : World Value) (c : T.TreeConfig) (ts : List Value) (z : M.Env) (x : ℕ) (cs ds : List ℕ) (v : Value) →
       Ground p w c made → FramesRel p w fs hs → Reaches_all w (env_values z) → Reaches_all w ts → M.lookup z (fresh x) ≡ Some v → cs0 ≡ ds ++ x ∷ cs → length ds ≡ length ts →
       Grows w w4 → Ground p w4 (record c { store = c.store ++ M.Cell v ∷ [] }) made → Reached w4 made.store body_env (At (length c.store)) →
       Made (stage (record c { control = M.Val (At (length c.store)); frames = let_frame ts (M.gather (later z ts cs) z) ∷ fs; store = c.store ++ M.Cell v ∷ [] }) (ts ++ At (length c.store) ∷ []) (M.gather (later z ts cs) z) cs) cs →
