@@ -28,7 +28,7 @@ use Rattle.tb_assign.proofs.Rel as Rel
 use Rattle.tb_assign.proofs.Rel.{Alike, VarRel, EnvRel, Covers, FramesRel, Good, BindsWell, free_cells, inner_cells, target}
 use Rattle.tb_assign.proofs.Grow as Grow
 use Rattle.tb_assign.proofs.Grow.{items}
-use Rattle.tb_assign.proofs.Envs.{gather-finds, gather-points, looked-up}
+use Rattle.tb_assign.proofs.Envs.{gather-finds, gather-points, gather-twice, looked-up}
 use Rattle.tb_assign.proofs.Base.{Ground, Goes, here, running, step, pending, pending_frames, pending_state}
 use Rattle.tb_assign.proofs.Simple.{goes}
 use Rattle.tb_assign.proofs.Moves.{alone_to}
@@ -319,3 +319,46 @@ module _ (p : ProgramTree) (input : List ℕ) (q : Place) (site : ℕ) (xs : Lis
         (λ a i v l. gather-finds L0 start_env (fresh a) v (fresh_named cs0 a i) l)
         (λ y i out v l. gather-finds L0 start_env y v (cells-from g (inner_cells p) q site cs0 (eliminate g e) y i out) l)
         (λ w' c' ts' z' gr k' f' pl ke. body_goes w' ts' z' pl ke (Grow.env_grows w w' gr g r h env) outer c' k' f')
+
+    ground_wide : (c0 : T.TreeConfig) → c0.globals ≡ c.globals → c0.input ≡ c.input → c0.met_end ≡ c.met_end → c0.store ≡ c.store → Ground p w c0 made
+    ground_wide c0 eg ei em es' = record {
+      globals = subst (λ gs. AlikeLists (Rel.Partner w) (IsTrue true) gs d.globals) (sym eg) ground.globals;
+      stores = subst (λ st. Stores (items p) w w st made.store) (sym es') (stores-wide p w w c.store d.store (R.vars all_us) ground.stores);
+      statics = ground.statics;
+      input = ei ∙ ground.input;
+      met = em ∙ ground.met;
+    }
+
+    -- the `let` of the cells is evaluated
+    abbrev let_config : T.TreeConfig
+    let_config = record c { control = M.Eval (C.Node q site (C.Let cs0 (new_cells g q cs0) (eliminate g e))) z0; frames = fs }
+
+    let_goes : Goes p input waits (M.Running let_config es)
+    let_goes =
+        let held = K.held_making p input q site xs e vs r h fs hs es d all_us noline w let_config [] (env_values z0) (ground_wide let_config refl refl refl refl) frames refl refl refl
+            (reached-gather w made.store body_env L0 start_env first_reached) in
+        let numbered : T.numbers (T.line_of (order_of p) site) (C.Let cs0 (new_cells g q cs0) (eliminate g e)) ≡ T.numbers_from 0 (C.count (new_cells g q cs0)) = ap (λ o. T.line_or_written o (C.count (new_cells g q cs0))) noline in
+        let count = count-cells g q cs0 in
+        let begins : step p (M.Running let_config es) ≡ stage let_config [] z0 cs0 =
+            ap (λ ns. T.operands_left (target p) let_config q site (C.Let cs0 (new_cells g q cs0) (eliminate g e)) [] z0 ns (drop 0 ns) fs es) numbered
+            ∙ ap (λ n. T.operands_left (target p) let_config q site (C.Let cs0 (new_cells g q cs0) (eliminate g e)) [] z0 (T.numbers_from 0 (C.count (new_cells g q cs0))) (T.numbers_from 0 n) fs es) count in
+        let made_all = all_made let_config refl refl refl refl in
+        let low = made_all.1 in
+        alone_to p input w (M.Running let_config es) (stage let_config [] z0 cs0) waits begins refl held (omega arith) made_all.0
+
+    starts : (cs : List ℕ) → cs0 ≡ cs → Goes p input waits (T.evaluate_cut (target p) c (bind_cells g q site cs (eliminate g e)) start_env fs es)
+    starts [] eq =
+        subst (λ z. Goes p input waits (M.Running (record c { control = M.Eval (eliminate g e) z; frames = fs }) es)) (gather-twice (F.free (inner_cells p) (eliminate g e)) start_env)
+        (subst (λ cs. Goes p input waits (T.operands_left (target p) c q site (C.Let cs (new_cells g q cs) (eliminate g e)) [] (M.gather (F.free (inner_cells p) (bind_cells g q site cs (eliminate g e))) start_env) (T.numbers_from 0 (C.count (new_cells g q cs))) (T.numbers_from 0 (length cs)) fs es)) eq
+        (all_made c refl refl refl refl).0)
+    starts (x ∷ cs) eq =
+        subst (λ ys. Goes p input waits (M.Running (record c { control = M.Eval (C.Node q site (C.Let ys (new_cells g q ys) (eliminate g e))) (M.gather (F.free (inner_cells p) (bind_cells g q site ys (eliminate g e))) start_env); frames = fs }) es)) eq let_goes
+
+    pub body-starts : Goes p input waits (T.evaluate_cut (target p) c (with_cells g q site xs (eliminate g e)) start_env fs es)
+    body-starts = starts cs0 refl
+
+pub all-bodies : (p : ProgramTree) (input : List ℕ) → ((e : Tree) → Each (Good p) e → Same (free_cells p e) (free (inner_free p) e)) → ((e : Tree) → Each (Good p) e → AreSmall (free (inner_free p) e)) → Bodies p input
+all-bodies p input same small = record {
+  binds = λ w c d k q site xs e vs us r h fs hs es good no_mark well noline bound outer env f.
+      body-starts p input q site xs e vs r h fs hs es d us noline good no_mark well (same e good) (small e good) w c k f bound env outer
+}

@@ -58,3 +58,24 @@ gather-points g w (x ∷ xs) r q h = gather_found g w x (M.lookup r x) (gather x
 pub gather-cut : (g : ℕ → Bool) (w : World Value) (xs ys : List ℕ) (r : M.Env) (q : S.Env) → EnvRel g w r q → ((y : ℕ) → IsIn y xs → IsIn y ys) → EnvRel g w (gather xs r) (S.cut ys q)
 gather-cut g w xs ys r q h k =
     gather-points g w xs r (S.cut ys q) (λ y v i e. let f = looked-up g w r q y v h e in (f.0, cut-kept ys q y (tested-in ys y (k y i)) ∙ f.1, f.2))
+
+-- gathering once more changes nothing
+gather_absent : (x y : ℕ) (o : Option Value) (rest : M.Env) (b : Bool) → (x == y) ≡ b → (b ≡ true → o ≡ None) → M.lookup rest y ≡ None → M.lookup (bind_found x o rest) y ≡ None
+gather_absent x y None rest b e h k = k
+gather_absent x y (Some u) rest true e h k = let q : Some u ≡ None = h refl in cc
+gather_absent x y (Some u) rest false e h k = ap (λ b. cond b (Some u) (M.lookup rest y)) e ∙ k
+
+gather_none : (xs : List ℕ) (r : M.Env) (y : ℕ) → M.lookup r y ≡ None → M.lookup (gather xs r) y ≡ None
+gather_none [] r y e = refl
+gather_none (x ∷ xs) r y e = gather_absent x y (M.lookup r x) (gather xs r) (x == y) refl (λ q. ap (M.lookup r) (eqb-true x y q) ∙ e) (gather_none xs r y e)
+
+gather_looked : (xs : List ℕ) (r : M.Env) (y : ℕ) (o : Option Value) → M.lookup r y ≡ o → IsIn y xs → M.lookup (gather xs r) y ≡ M.lookup r y
+gather_looked xs r y None e i = gather_none xs r y e ∙ sym e
+gather_looked xs r y (Some v) e i = gather-finds xs r y v i e ∙ sym e
+
+gather_same : (xs : List ℕ) (r s : M.Env) → ((y : ℕ) → IsIn y xs → M.lookup r y ≡ M.lookup s y) → gather xs r ≡ gather xs s
+gather_same [] r s h = refl
+gather_same (x ∷ xs) r s h = ap (λ o. bind_found x o (gather xs r)) (h x (inl refl)) ∙ ap (bind_found x (M.lookup s x)) (gather_same xs r s (λ y i. h y (inr i)))
+
+pub gather-twice : (xs : List ℕ) (r : M.Env) → gather xs (gather xs r) ≡ gather xs r
+gather-twice xs r = gather_same xs (gather xs r) r (λ y i. gather_looked xs r y (M.lookup r y) refl i)
