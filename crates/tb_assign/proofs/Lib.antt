@@ -13,3 +13,4 @@ pub mod Step
 pub mod Bound
 pub mod Making
 pub mod Bodies
+pub mod Entries
