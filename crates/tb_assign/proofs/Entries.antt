@@ -3,6 +3,7 @@ use Rattle.std.proofs.Common.{◌≡◌, refl, sym, ap, ◌∙◌, subst, subst�
 use Rattle.std.proofs.lemmas.Bool.{leb-true}
 use Rattle.tb_prim.specs.declared.place.Place.{Place}
 use Rattle.tb_prim.specs.declared.event.Event.{Event}
+use Rattle.tb_prim.specs.declared.event.Cause.{Cause}
 use Rattle.tb_semantics.specs.Graph.{IsIn}
 use Rattle.tb_semantics.proofs.Worlds.{Entry, Both, Only, World, Grows, Stores, stores_stay, both_made, grows_one, grows_refl}
 use Rattle.tb_core.specs.Tree.{Tree, LambdaTree, ProgramTree, parameters, option_list}
@@ -20,7 +21,7 @@ use Rattle.tb_ir.specs.Tree as C
 use Rattle.tb_ir.specs.FreeVariables as F
 use Rattle.tb_ir.specs.Machine as M
 use Rattle.tb_ir.specs.TreeMachine as T
-use Rattle.tb_assign.specs.Eliminate.{renamed, renamed_rest, body_site, with_cells, eliminate, eliminate_lambda, eliminate_lambdas, cells_of}
+use Rattle.tb_assign.specs.Eliminate.{fresh, renamed, renamed_rest, body_site, with_cells, eliminate, eliminate_lambda, eliminate_lambdas, cells_of}
 use Rattle.tb_assign.proofs.Free.{Same, absent}
 use Rattle.tb_assign.proofs.Rel as Rel
 use Rattle.tb_assign.proofs.Rel.{Alike, AllAlike, EnvRel, Covers, FramesRel, ItemRel, Good, Ready, BindsWell, free_cells, inner_cells, source, target}
@@ -138,3 +139,88 @@ module _ (p : ProgramTree) (input : List ℕ) (ready : Ready p) (bodies : Bodies
     body_entered w' c' d' vs us es k' gr long x =
         bodies.binds w' c' d' k' l.place (body_site m) (parameters l) l.body vs us r h c.frames d.frames es (ready.bodies m l known) (ready.values m l known) (ready.binds m l known) (ready.lines_small (body_site m) (omega arith))
         (bound_alike p w' (parameters l) vs us long x) (outer w') (Grow.env_grows w w' gr g r h env) (Grow.frames_grow w w' gr p c.frames d.frames f)
+
+    enters_plain : (vs us : List Value) (es : List Event) → l.rest ≡ None → length l.formals ≡ length us → AllAlike w vs us →
+        Goes p input (R.bind_parameters (source p) d l None us h es) (M.bind_parameters L c (record { place = l.place; formals = renamed g l.formals; rest = renamed_rest g l.rest; added = []; captured = F.captured (cells_of p) m; body = with_cells g l.place (body_site m) (parameters l) (eliminate g l.body) }) None vs r es)
+    enters_plain vs us es no_rest long x =
+        let names : parameters l ≡ l.formals = ap (λ o. l.formals ++ option_list o) no_rest ∙ append-nil l.formals in
+        subst (λ xs. Goes p input (R.go_with d (R.eval (source p) l.body (S.bind_from xs (length d.store) h)) d.frames (d.store ++ R.vars us) es)
+        (T.evaluate_cut (target p) c (with_cells g l.place (body_site m) (parameters l) (eliminate g l.body)) (M.bind_all (renamed g xs) vs r) c.frames es)) names
+        (body_entered w c d vs us es k (grows_refl w) (ap length names ∙ long) x)
+
+    renamed_last : (xs : List ℕ) (y : ℕ) → renamed g (xs ++ y ∷ []) ≡ renamed g xs ++ cond (g y) (fresh y) y ∷ []
+    renamed_last [] y = refl
+    renamed_last (x ∷ xs) y = ap (λ zs. cond (g x) (fresh x) x ∷ zs) (renamed_last xs y)
+
+    enters_rest : (y : ℕ) (vs us : List Value) (es : List Event) → l.rest ≡ Some y → length l.formals ≤ length us → AllAlike w vs us →
+        Goes p input (R.bind_parameters (source p) d l (Some y) us h es) (M.bind_parameters L c (record { place = l.place; formals = renamed g l.formals; rest = renamed_rest g l.rest; added = []; captured = F.captured (cells_of p) m; body = with_cells g l.place (body_site m) (parameters l) (eliminate g l.body) }) (renamed_rest g (Some y)) vs r es)
+    enters_rest y vs us es rest le x =
+        let n : ℕ = length l.formals in
+        let vs2 : List Value = drop n vs in
+        let us2 : List Value = drop n us in
+        let W : World Value = pairs_more (length us2) (length c.store) (length d.store) w in
+        let gr : Grows w W = pairs_grow (length us2) (length c.store) (length d.store) w in
+        let x' : AllAlike W vs us = Grow.lists_wider (Rel.Partner w) (Rel.Partner W) (IsTrue false) (IsTrue false) (λ a b i. gr (Both a b) i) (λ u. u) vs us x in
+        let st : List M.Item = c.store ++ map M.Obj (list_objects vs2 (length c.store)) in
+        let pairs : List S.Item = R.list_items us2 (length d.store) in
+        let ss : List S.Item = d.store ++ pairs in
+        let stores = pairs_made p W vs2 us2 w c.store d.store (alike_drop W n vs us x') (λ kk i. i) (stores_stay M.Item S.Item Value (items p) w W w c.store d.store gr k.stores) in
+        let c' : T.TreeConfig = record c { store = st } in
+        let d' : R.Config = record d { store = ss } in
+        let k' : Ground p W c' d' = record {
+          globals = Grow.lists_wider (Rel.Partner w) (Rel.Partner W) (IsTrue true) (IsTrue true) (λ a b i. gr (Both a b) i) (λ u. u) _ _ k.globals;
+          stores = stores;
+          statics = λ a lt. gr (Both a a) (k.statics a lt);
+          input = k.input;
+          met = k.met;
+        } in
+        let names : parameters l ≡ l.formals ++ y ∷ [] = ap (λ o. l.formals ++ option_list o) rest in
+        let ws : List Value = take n vs ++ list_value vs2 (length c.store) ∷ [] in
+        let zs : List Value = take n us ++ list_value us2 (length d.store) ∷ [] in
+        let alike : AllAlike W ws zs = alike_append W (take n vs) (take n us) _ _ (alike_take W n vs us x') (Like.further (list_alike w W vs2 us2 (length c.store) (length d.store) (alike_drop w n vs us x) (λ kk i. i)) Like.nothing) in
+        let long : length (parameters l) ≡ length zs = ap length names ∙ length-append l.formals (y ∷ []) ∙ ap (λ a. a + 1) (sym (take_long n us le)) ∙ sym (length-append (take n us) (list_value us2 (length d.store) ∷ [])) in
+        let entered = body_entered W c' d' ws zs es k' gr long alike in
+        let first : ℕ = length d.store + length pairs in
+        let at_first : length ss ≡ first = length-append d.store pairs in
+        subst (λ a. Goes p input (R.bind_parameters (source p) d l (Some y) us h es) (M.Running (record c { control = M.Eval (with_cells g l.place (body_site m) (parameters l) (eliminate g l.body)) (M.gather (F.free (inner_cells p) (with_cells g l.place (body_site m) (parameters l) (eliminate g l.body))) (M.bind_all (renamed g l.formals ++ cond (g y) (fresh y) y ∷ []) (take a vs ++ list_value (drop a vs) (length c.store) ∷ []) r)); frames = c.frames; store = c.store ++ map M.Obj (list_objects (drop a vs) (length c.store)) }) es)) (sym (renamed_long g l.formals))
+        (subst (λ xs. Goes p input (R.bind_parameters (source p) d l (Some y) us h es) (M.Running (record c { control = M.Eval (with_cells g l.place (body_site m) (parameters l) (eliminate g l.body)) (M.gather (F.free (inner_cells p) (with_cells g l.place (body_site m) (parameters l) (eliminate g l.body))) (M.bind_all xs ws r)); frames = c.frames; store = st }) es)) (renamed_last l.formals y)
+        (subst (λ items. Goes p input (R.go_with d (R.eval (source p) l.body (S.bind_from (l.formals ++ y ∷ []) first h)) d.frames items es) (M.Running (record c { control = M.Eval (with_cells g l.place (body_site m) (parameters l) (eliminate g l.body)) (M.gather (F.free (inner_cells p) (with_cells g l.place (body_site m) (parameters l) (eliminate g l.body))) (M.bind_all (renamed g (l.formals ++ y ∷ [])) ws r)); frames = c.frames; store = st }) es)) (append_assoc d.store pairs (R.vars zs))
+        (subst (λ a. Goes p input (R.go_with d (R.eval (source p) l.body (S.bind_from (l.formals ++ y ∷ []) a h)) d.frames (ss ++ R.vars zs) es) (M.Running (record c { control = M.Eval (with_cells g l.place (body_site m) (parameters l) (eliminate g l.body)) (M.gather (F.free (inner_cells p) (with_cells g l.place (body_site m) (parameters l) (eliminate g l.body))) (M.bind_all (renamed g (l.formals ++ y ∷ [])) ws r)); frames = c.frames; store = st }) es)) at_first
+        (subst (λ xs. Goes p input (R.go_with d (R.eval (source p) l.body (S.bind_from xs (length ss) h)) d.frames (ss ++ R.vars zs) es) (M.Running (record c { control = M.Eval (with_cells g l.place (body_site m) (parameters l) (eliminate g l.body)) (M.gather (F.free (inner_cells p) (with_cells g l.place (body_site m) (parameters l) (eliminate g l.body))) (M.bind_all (renamed g xs) ws r)); frames = c.frames; store = st }) es)) names entered))))
+
+    by_count : (b : Bool) (s t : R.State) (x y : T.TreeState) → (b ≡ true → Goes p input s x) → Goes p input t y → Goes p input (cond b s t) (cond b x y)
+    by_count true s t x y a b = a refl
+    by_count false s t x y a b = b
+
+    enters_with : (o : Option ℕ) (vs us : List Value) (es : List Event) → l.rest ≡ o → R.takes l o (length us) ≡ true → AllAlike w vs us →
+        Goes p input (R.bind_parameters (source p) d l o us h es) (M.bind_parameters L c (record { place = l.place; formals = renamed g l.formals; rest = renamed_rest g l.rest; added = []; captured = F.captured (cells_of p) m; body = with_cells g l.place (body_site m) (parameters l) (eliminate g l.body) }) (renamed_rest g o) vs r es)
+    enters_with None vs us es e t x = enters_plain vs us es e (eqb-true (length l.formals) (length us) t) x
+    enters_with (Some y) vs us es e t x = enters_rest y vs us es e (leb-true (length l.formals) (length us) t) x
+
+    enters_body : (vs us : List Value) (es : List Event) → AllAlike w vs us → Goes p input (R.enter_lambda (source p) d (Some l) us h es) (M.enter_body L c (T.procedure_of (cells_of p) m (Some (eliminate_lambda g m l))) vs r es)
+    enters_body vs us es x =
+        subst (λ n. Goes p input (R.enter_lambda (source p) d (Some l) us h es) (cond (M.takes (length (renamed g l.formals)) (renamed_rest g l.rest) n) (M.bind_parameters L c (record { place = l.place; formals = renamed g l.formals; rest = renamed_rest g l.rest; added = []; captured = F.captured (cells_of p) m; body = with_cells g l.place (body_site m) (parameters l) (eliminate g l.body) }) (renamed_rest g l.rest) vs r es) (M.fail c Cause.WrongArgs l.place es))) (sym (alike_long w vs us x))
+        (subst (λ b. Goes p input (R.enter_lambda (source p) d (Some l) us h es) (cond b (M.bind_parameters L c (record { place = l.place; formals = renamed g l.formals; rest = renamed_rest g l.rest; added = []; captured = F.captured (cells_of p) m; body = with_cells g l.place (body_site m) (parameters l) (eliminate g l.body) }) (renamed_rest g l.rest) vs r es) (M.fail c Cause.WrongArgs l.place es))) (sym (same_takes g l l.rest (length us)))
+        (by_count (R.takes l l.rest (length us)) _ _ _ _ (λ t. enters_with l.rest vs us es refl t x) (fails p input w c d k held Cause.WrongArgs l.place es)))
+
+  enters_known : (w : World Value) (c : T.TreeConfig) (d : R.Config) → Ground p w c d → Held p w c d → FramesRel p w c.frames d.frames → (m : ℕ) (o : Option LambdaTree) → slice_get p.lambdas m ≡ o → (r : M.Env) (h : S.Env) (vs us : List Value) (es : List Event) → Covers (inner_cells p m) r → EnvRel g w r h → AllAlike w vs us →
+      Goes p input (R.enter_lambda (source p) d o us h es) (M.enter_body L c (T.procedure_of (cells_of p) m (cells_at g m o)) vs r es)
+  enters_known w c d k held f m None e r h vs us es cv env x = loses p input w c d k held es
+  enters_known w c d k held f m (Some l) e r h vs us es cv env x = enters_body w c d k held f m l e r h cv env vs us es x
+
+  enters_item : (w : World Value) (c : T.TreeConfig) (d : R.Config) → Ground p w c d → Held p w c d → FramesRel p w c.frames d.frames → (i : M.Item) (j : S.Item) (vs us : List Value) (es : List Event) → ItemRel p w i j → AllAlike w vs us →
+      Goes p input (R.entering (source p) d (Some j) us es) (M.enter_item L c (Some i) vs es)
+  enters_item w c d k held f _ _ vs us es (Rel.cell h) x = loses p input w c d k held es
+  enters_item w c d k held f _ _ vs us es (Rel.object h) x = loses p input w c d k held es
+  enters_item w c d k held f _ _ vs us es (Rel.closure {m = m} {r = r} {q = h} cv env) x =
+      subst (λ o. Goes p input (R.enter_lambda (source p) d (slice_get p.lambdas m) us h es) (M.enter_body L c (T.procedure_of (cells_of p) m o) vs r es))
+      (sym (lambda-at g p.lambdas 0 m ∙ ap (λ n. cells_at g n (slice_get p.lambdas m)) (let z : 0 + m ≡ m = omega arith in z)))
+      (enters_known w c d k held f m (slice_get p.lambdas m) refl r h vs us es cv env x)
+
+  pub all-entries : Entries p input
+  all-entries = record {
+    enters = λ w c d k held f t s vs us es at x.
+        let l = k.stores.linked t s at in
+        subst₂ (λ a b. Goes p input (R.entering (source p) d b us es) (M.enter_item L c a vs es)) (sym l.here) (sym l.there)
+        (enters_item w c d k held f l.item l.other vs us es l.alike x)
+  }
