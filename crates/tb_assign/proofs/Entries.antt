@@ -81,11 +81,11 @@ bound_alike p w [] _ _ l (Like.further h hs) = absurd (omega arith)
 bound_alike p w (x ∷ xs) _ _ l (Like.further {v = v} {w = u} h hs) = one_bound (anywhere w (is_assigned p x) v u h) (bound_alike p w xs _ _ (omega arith) hs)
 
 -- so many pairs more, on both sides
-abbrev pairs_more : ℕ → ℕ → ℕ → World Value → World Value
+abbrev pub pairs_more : ℕ → ℕ → ℕ → World Value → World Value
 pairs_more zero t s w = w
 pairs_more (suc n) t s w = pairs_more n (suc t) (suc s) (Both t s ∷ w)
 
-pairs_grow : (n t s : ℕ) (w : World Value) → Grows w (pairs_more n t s w)
+pub pairs_grow : (n t s : ℕ) (w : World Value) → Grows w (pairs_more n t s w)
 pairs_grow zero t s w k i = i
 pairs_grow (suc n) t s w k i = pairs_grow n (suc t) (suc s) (Both t s ∷ w) k (inr i)
 

@@ -9,8 +9,10 @@ pub mod Simple
 pub mod Lines
 pub mod Nodes
 pub mod Moves
+pub mod Closures
 pub mod Step
 pub mod Bound
 pub mod Making
 pub mod Bodies
 pub mod Entries
+pub mod Groups

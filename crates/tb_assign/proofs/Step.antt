@@ -36,6 +36,7 @@ use Rattle.tb_assign.proofs.Simple.{goes, goes-made, goes-value, anywhere, fails
 use Rattle.tb_assign.proofs.Lines as Lines
 use Rattle.tb_assign.proofs.Lines.{numbers-all, values-last}
 use Rattle.tb_assign.proofs.Nodes.{Bodies, evaluates, sequences, continues}
+use Rattle.tb_assign.proofs.Closures.{closure-made}
 use Rattle.tb_assign.proofs.Moves.{Next, both, target_alone, const-alike, reads-plain, goes-reading, goes-setting, sets-cell}
 
 -- procedures that are made together are made alike
@@ -60,17 +61,6 @@ module _ (p : ProgramTree) (input : List ℕ) (ready : Ready p) (bodies : Bodies
 
   abbrev L : M.Language C.Tree T.TreeWork
   L = T.language (cells_of p) (order_of p)
-
-  captured_in : (l y : ℕ) → IsIn y (inner_cells p l) → IsIn y (F.captured (cells_of p) l)
-  captured_in l y i = in-tested (F.captured (cells_of p) l) y (first_of-in [] (inner_cells p l) y ∙ tested-in (inner_cells p l) y i)
-
-  captured_free : (l y : ℕ) → IsIn y (F.captured (cells_of p) l) → IsIn y (inner_free p l)
-  captured_free l y i = (inner l).to y (in-tested (inner_cells p l) y (sym (first_of-in [] (inner_cells p l) y) ∙ tested-in (F.captured (cells_of p) l) y i))
-
-  -- a procedure that is made
-  pub closure-made : (w : World Value) (l : ℕ) (xs : List ℕ) (r : M.Env) (h : S.Env) → Covers xs r → ((y : ℕ) → IsIn y (inner_cells p l) → IsIn y xs) → EnvRel g w r h → ItemRel p w (M.Clo l (M.gather (F.captured (cells_of p) l) r)) (S.Clo l (S.cut (inner_free p l) h))
-  closure-made w l xs r h cv sub v =
-      Rel.closure (covers-gather xs (inner_cells p l) (F.captured (cells_of p) l) r cv sub (captured_in l)) (gather-cut g w (F.captured (cells_of p) l) (inner_free p l) r h v (captured_free l))
 
   module _ (w : World Value) (c : T.TreeConfig) (d : R.Config) (k : Ground p w c d) (held : Held p w c d) (f : FramesRel p w c.frames d.frames) where
     pending_at : (m : M.Control C.Tree) (n : ℕ) → c.control ≡ m → B.pending_control m ≡ n → B.pending_control c.control ≡ n
@@ -138,7 +128,7 @@ module _ (p : ProgramTree) (input : List ℕ) (ready : Ready p) (bodies : Bodies
     evals_form q s (Quote x) r h es ec ed n m mark cv env = both (goes p input w c d k _ _ _ _ es (Rel.val (const-alike p w _ x q s k.statics (n.node).in_range mark)) f)
     evals_form q s (Local y) r h es ec ed n m mark cv env = local_read q s y r h es ec ed (cv.has y (is_named y (g y) q s)) env
     evals_form q s (Global x) r h es ec ed n m mark cv env = both (reads-global p input w c d k held x q es f)
-    evals_form q s (Lambda l) r h es ec ed n m mark cv env = both (goes-made p input w c d k _ _ _ _ es (closure-made w l (inner_cells p l) r h cv (λ y i. i) env) f)
+    evals_form q s (Lambda l) r h es ec ed n m mark cv env = both (goes-made p input w c d k _ _ _ _ es (closure-made p inner w l (inner_cells p l) r h cv (λ y i. i) env) f)
     evals_form q s (If a b e) r h es ec ed n m mark cv env =
         let marks = (n.node).marks_are_operands in
         both (evaluates p input ready bodies same small w c d k held a (F.free_form (inner_cells p) (eliminate_form g q s (If a b e))) r h _ (R.push (R.Sel b e (S.cut (free (inner_free p) b ++ free (inner_free p) e) h)) d.frames) es m.0 (unmarked (is_mark a) _ marks.0) cv (λ y i. in-left y (free_cells p a) _ i) env
