@@ -50,7 +50,7 @@ only_in (suc k) s t (suc i) v lt =
     let b : suc t + i ≡ t + suc i = omega arith in
     subst₂ (λ n m. IsIn (Only n (At m)) (onlys k (suc s) (suc t) (Only s (At t) ∷ v))) a b (only_in k (suc s) (suc t) i (Only s (At t) ∷ v) (omega arith))
 
-pair_in : (k t s i : ℕ) (v : World Value) → i < k → IsIn (Both (t + i) (s + i)) (pairs_more k t s v)
+pub pair_in : (k t s i : ℕ) (v : World Value) → i < k → IsIn (Both (t + i) (s + i)) (pairs_more k t s v)
 pair_in zero t s i v lt = absurd (omega arith)
 pair_in (suc k) t s zero v lt = pairs_grow k (suc t) (suc s) _ _ (inl (ap (λ n. Both n s) (let a : t ≡ t + 0 = omega arith in a) ∙ ap (λ n. Both (t + 0) n) (let a : s ≡ s + 0 = omega arith in a)))
 pair_in (suc k) t s (suc i) v lt =

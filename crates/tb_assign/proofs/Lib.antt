@@ -16,3 +16,4 @@ pub mod Making
 pub mod Bodies
 pub mod Entries
 pub mod Groups
+pub mod Whole
