@@ -12,7 +12,7 @@ use Rattle.tb_semantics.proofs.Worlds.{Entry, Both, Only, World, Grows, Stores, 
 use Rattle.tb_core.specs.Tree.{Tree, Node, Form, Local, SetLocal, Trees, ProgramTree}
 use Rattle.tb_core.specs.FreeVariables.{is_assigned}
 use Rattle.tb_core.specs.OperandOrder.{order_of}
-use Rattle.tb_core.specs.Rules.{Each}
+use Rattle.tb_core.specs.Rules.{Each, is_mark}
 use Rattle.tb_core.specs.Store as S
 use Rattle.tb_core.specs.Store.{Value, At, Unspecified, Object}
 use Rattle.tb_core.specs.Space as Space
@@ -89,7 +89,7 @@ pub data Base (p : ProgramTree) : T.TreeState → R.State → Type 0 where
       Ground p w c d → FramesRel p w fs d.frames → c.control ≡ M.Val (At t) →
       c.frames ≡ record { marked = false; work = M.Own (T.Args q s (C.CellSet (cell_name (is_assigned p) q s x) (eliminate (is_assigned p) e)) [] h) } ∷ fs →
       d.control ≡ R.Eval (Node q s (SetLocal x e)) r → S.lookup r x ≡ Some l → IsIn (Both t l) w →
-      Covers (Rel.free_cells p e) h → EnvRel (is_assigned p) w h r → Held p w c d → Base p (M.Running c es) (R.Running d es)
+      Each (Rel.Good p) e → is_mark e ≡ false → Covers (Rel.free_cells p e) h → EnvRel (is_assigned p) w h r → Held p w c d → Base p (M.Running c es) (R.Running d es)
 
 abbrev pub step : ProgramTree → T.TreeState → T.TreeState
 step p = M.step (T.language (cells_of p) (order_of p))

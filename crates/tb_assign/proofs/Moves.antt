@@ -125,9 +125,9 @@ module _ (p : ProgramTree) (input : List ℕ) (w : World Value) (c : T.TreeConfi
         (here (reading {w = w} (ground_above (M.Val (At t)) a) f refl refl e there_l at held2))
 
     -- a variable that is set; `z` is the environment of its expression
-    pub goes-setting : (e : Tree) (z : M.Env) → d.control ≡ R.Eval (Node q s (SetLocal y e)) h → Covers (free_cells p e) z → EnvRel (is_assigned p) w z h →
+    pub goes-setting : (e : Tree) (z : M.Env) → d.control ≡ R.Eval (Node q s (SetLocal y e)) h → Each (Good p) e → is_mark e ≡ false → Covers (free_cells p e) z → EnvRel (is_assigned p) w z h →
         Goes p input (R.Running d es) (M.Running (above (M.Eval (cell_name (is_assigned p) q s y) (M.gather (y ∷ []) r)) (T.Args q s (C.CellSet (cell_name (is_assigned p) q s y) (eliminate (is_assigned p) e)) [] z)) es)
-    goes-setting e z q_d cv ve =
+    goes-setting e z q_d good no_mark cv ve =
         let a : T.TreeWork = T.Args q s (C.CellSet (cell_name (is_assigned p) q s y) (eliminate (is_assigned p) e)) [] z in
         let waits : Matches w (sources p w d.store (source_roots p d)) (values_locations (env_values z)) (Space.control_locations d.control) =
             subst (Matches w (sources p w d.store (source_roots p d)) (values_locations (env_values z))) (sym control)
@@ -136,7 +136,7 @@ module _ (p : ProgramTree) (input : List ℕ) (w : World Value) (c : T.TreeConfi
         let held2 = held_above (M.Val (At t)) a _ (match-both w (sources p w d.store (source_roots p d)) match_there waits) (sym (append_assoc (t ∷ []) (values_locations (env_values z)) _)) in
         alone_to p input w _ (M.Running (above (M.Val (At t)) a) es) _
         (ap (λ o. M.give_value (above (M.Eval (cell_name (is_assigned p) q s y) (M.gather (y ∷ []) r)) a) o es) named) refl held1 (omega arith)
-        (here (setting {w = w} (ground_above (M.Val (At t)) a) f refl refl q_d there_l at cv ve held2))
+        (here (setting {w = w} (ground_above (M.Val (At t)) a) f refl refl q_d there_l at good no_mark cv ve held2))
 
 -- a cell that is read where its source reads a variable
 module _ (p : ProgramTree) (input : List ℕ) (w : World Value) (c : T.TreeConfig) (d : R.Config) (k : Ground p w c d) (held : Held p w c d) where

@@ -86,14 +86,14 @@ module _ (p : ProgramTree) (input : List ℕ) (ready : Ready p) (bodies : Bodies
     is_named y false q s = inl refl
 
     -- a variable is set
-    set : (q : Place) (s y : ℕ) (e : Tree) (b : Bool) (v : Value) (l : ℕ) (r : M.Env) (h : S.Env) (es : List Event) → g y ≡ b → b ≡ true → c.control ≡ M.Eval (eliminate g (Node q s (SetLocal y e))) r → d.control ≡ R.Eval (Node q s (SetLocal y e)) h → Each (Good p) e →
+    set : (q : Place) (s y : ℕ) (e : Tree) (b : Bool) (v : Value) (l : ℕ) (r : M.Env) (h : S.Env) (es : List Event) → g y ≡ b → b ≡ true → c.control ≡ M.Eval (eliminate g (Node q s (SetLocal y e))) r → d.control ≡ R.Eval (Node q s (SetLocal y e)) h → Each (Good p) e → is_mark e ≡ false →
         M.lookup r y ≡ Some v → S.lookup h y ≡ Some l → VarRel w b v l → Covers (free_cells p (Node q s (SetLocal y e))) r → EnvRel g w r h → Next p input c d (M.Eval (eliminate g (Node q s (SetLocal y e))) r) (R.Eval (Node q s (SetLocal y e)) h) es
-    set q s y e b _ l r h es eb sure ec ed n a z (Rel.plain n0 i) cv env = absurd (both_ways b n0 sure)
-    set q s y e b _ l r h es eb sure ec ed n a z (Rel.in_cell {t = t} m i) cv env =
+    set q s y e b _ l r h es eb sure ec ed n nm a z (Rel.plain n0 i) cv env = absurd (both_ways b n0 sure)
+    set q s y e b _ l r h es eb sure ec ed n nm a z (Rel.in_cell {t = t} m i) cv env =
         let lt = ap B.pending_control ec in
         let zs : List ℕ = T.free_of_numbers (target p) (C.operands (eliminate_form g q s (SetLocal y e))) (1 ∷ []) ++ [] in
         target_alone
-        (goes-setting p input w c d k f q s y t l r h es a z i env (ap Space.control_locations ed) e (M.gather zs r) ed
+        (goes-setting p input w c d k f q s y t l r h es a z i env (ap Space.control_locations ed) e (M.gather zs r) ed n nm
         (covers-gather (free_cells p (Node q s (SetLocal y e))) (free_cells p e) zs r cv (λ x j. inr j) (λ x j. in-left x (free_cells p e ++ []) [] (in-left x (free_cells p e) [] j)))
         (gather-points g w zs r h (λ x u j q'. looked-up g w r h x u env q')))
         (omega arith)
@@ -141,7 +141,7 @@ module _ (p : ProgramTree) (input : List ℕ) (ready : Ready p) (bodies : Bodies
     evals_form q s (SetLocal y e) r h es ec ed n m mark cv env =
         let found = cv.has y (inl refl) in
         let u = looked-up g w r h y found.0 env found.1 in
-        set q s y e (g y) found.0 u.0 r h es refl n.binds ec ed m found.1 u.1 u.2 cv env
+        set q s y e (g y) found.0 u.0 r h es refl n.binds ec ed m (n.node).marks_are_operands found.1 u.1 u.2 cv env
     evals_form q s (SetGlobal x e) r h es ec ed n m mark cv env =
         both (evaluates p input ready bodies same small w c d k held e (free_cells p e) r h _ (R.push (R.SetGlo x false q) d.frames) es m (unmarked (is_mark e) _ (n.node).marks_are_operands) cv (λ y i. i) env (Rel.frame Rel.set_global f))
     evals_form q s (DefGlobal x e) r h es ec ed n m mark cv env =

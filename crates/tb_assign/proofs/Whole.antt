@@ -1,5 +1,6 @@
 -- A program with cells keeps its source: its events, what it holds at once, and what it makes.
 use Rattle.std.proofs.Common.{◌≡◌, refl, sym, ap, ◌∙◌, subst, subst₂, ℕ, zero, suc, ◌+◌, ◌<◌, ◌≤◌, inl, inr, ⊎_elim, arith, Bool, true, false, IsTrue, List, [], ◌∷◌, ◌++◌, length, map, replicate, Option, Some, None, slice_get, append_assoc, append-nil, length-append}
+use Rattle.std.proofs.lemmas.Bool.{both_ways}
 use Rattle.tb_prim.specs.declared.place.Place.{Place}
 use Rattle.tb_prim.specs.declared.constant.Const.{Const}
 use Rattle.tb_prim.specs.declared.constant.Static.{Static}
@@ -14,7 +15,7 @@ use Rattle.tb_semantics.proofs.Worlds.{Entry, Both, Only, World, Stores, both_ma
 use Rattle.tb_core.specs.Tree.{Tree, Node, Form, Quote, Local, Global, Lambda, If, SetLocal, SetGlobal, DefGlobal, Let, Letrec, Seq, Call, PrimUse, Apply, Trees, none, more, ProgramTree}
 use Rattle.tb_core.specs.FreeVariables.{free, inner_free, is_assigned}
 use Rattle.tb_core.specs.OperandOrder.{order_of}
-use Rattle.tb_core.specs.Rules.{Every, Each, EachForm, EachAll, KeepsRules, StaticsKeep, StaticKeeps, PartKeeps}
+use Rattle.tb_core.specs.Rules.{Every, Each, EachForm, EachAll, KeepsRules, is_mark, StaticsKeep, StaticKeeps, PartKeeps}
 use Rattle.tb_core.specs.Store as S
 use Rattle.tb_core.specs.Store.{Value, At, value_of, static_object}
 use Rattle.tb_core.specs.Measures as N
@@ -28,7 +29,7 @@ use Rattle.tb_ir.specs.Tree as C
 use Rattle.tb_ir.specs.Machine as M
 use Rattle.tb_ir.specs.TreeMachine as T
 use Rattle.tb_ir.specs.Measures.{tree_measured}
-use Rattle.tb_assign.specs.Eliminate.{cells_of, eliminate, eliminate_form}
+use Rattle.tb_assign.specs.Eliminate.{cell_name, cells_of, eliminate, eliminate_form}
 use Rattle.tb_assign.proofs.Free.{Same, AreSmall, NamesSmall, same-free, same-inner, small-free, small-inner}
 use Rattle.tb_assign.proofs.Rel as Rel
 use Rattle.tb_assign.proofs.Rel.{Alike, FramesRel, Good, Ready, free_cells, inner_cells, source, target}
@@ -130,3 +131,105 @@ starts p input ready =
       met = refl;
     })
     (Rel.val Like.unspecified) (Rel.frame Rel.top Rel.no_frame))
+
+module _ (p : ProgramTree) (input : List ℕ) (rules : KeepsRules p) (ready : Ready p) where
+  abbrev g : ℕ → Bool
+  g = is_assigned p
+
+  inner : (l : ℕ) → Same (inner_cells p l) (inner_free p l)
+  inner l = same-inner g p.lambdas 0 l ready.names_bodies
+
+  small_names : (l : ℕ) → AreSmall (inner_free p l)
+  small_names l = small-inner g p.lambdas 0 l ready.names_bodies
+
+  same : (e : Tree) → Each (Good p) e → Same (free_cells p e) (free (inner_free p) e)
+  same e n = same-free g (inner_free p) (inner_cells p) inner small_names e (names_small p e n)
+
+  small : (e : Tree) → Each (Good p) e → AreSmall (free (inner_free p) e)
+  small e n = small-free (inner_free p) small_names e (names_small p e n)
+
+  bodies : Bodies p input
+  bodies = all-bodies p input same small
+
+  -- the variable of a frame that sets one is there
+  sets_var : (st : List S.Item) (b : R.Work) → Kept.WorkOk p st b → Step.SetsVar p input ready bodies (all-groups p input same inner) (all-entries p input ready bodies same inner) same small inner st b
+  sets_var st (R.Sel a b r) h = tt
+  sets_var st (R.SetVar l) h = h
+  sets_var st (R.SetGlo n d q) h = tt
+  sets_var st (R.Rest es r) h = tt
+  sets_var st (R.Args q s f vs r) h = tt
+  sets_var st (R.Top k) h = tt
+
+  top_sets : (w : World Value) (c : T.TreeConfig) (d : R.Config) (k : Ground p w c d) (h : _) (st : List S.Item) (fs : List R.Frame) → Kept.FramesOk p st fs → Step.TopSets p input ready bodies (all-groups p input same inner) (all-entries p input ready bodies same inner) same small inner w c d k h st fs
+  top_sets w c d k h st [] o = tt
+  top_sets w c d k h st (f ∷ fs) o = sets_var st f.work o.0
+
+  -- the states that are related, and the moment of the source
+  abbrev Related : T.TreeState → R.State → Type 0
+  Related t s = Goes p input s t × (n : ℕ) × (s ≡ after (R.reference p (order_of p) input) n)
+
+  abbrev Moves : T.TreeState → R.State → Type 0
+  Moves t s = Sim.Moves (tree_measured (cells_of p) (order_of p) input) (N.reference_measured p (order_of p) input) Related pending_state (λ s. 0) t s
+
+  next_moment : (s : R.State) (n : ℕ) → s ≡ after (R.reference p (order_of p) input) n → source_step p s ≡ after (R.reference p (order_of p) input) (n + 1)
+  next_moment s n e = ap (source_step p) e ∙ sym (run-add (source_step p) n 1 (R.reference p (order_of p) input).start)
+
+  both_go : (t : T.TreeState) (s : R.State) (n : ℕ) → s ≡ after (R.reference p (order_of p) input) n → Goes p input (source_step p s) (step p t) → Moves t s
+  both_go t s n e h = Sim.both_move (h, n + 1, next_moment s n e)
+
+  by_next : (c : T.TreeConfig) (d : R.Config) (es : List Event) (n : ℕ) → R.Running d es ≡ after (R.reference p (order_of p) input) n → Next p input c d c.control d.control es → Moves (M.Running c es) (R.Running d es)
+  by_next c d es n e (both h) = both_go (M.Running c es) (R.Running d es) n e h
+  by_next c d es n e (target_alone h lt) = Sim.target_moves (h, n, e) lt
+
+  base_moves : (t : T.TreeState) (s : R.State) (n : ℕ) → s ≡ after (R.reference p (order_of p) input) n → Base p t s → Moves t s
+  base_moves _ _ n e (running {w = w} {c = c} {d = d} {es = es} k r f) =
+      let h = held p w c d k r f in
+      let ok : Kept.After p 0 (R.Running d es) = subst (Kept.After p 0) (sym e) (run-keeps p rules input n) in
+      by_next c d es n e
+      (Step.moves p input ready bodies (all-groups p input same inner) (all-entries p input ready bodies same inner) same small inner w c d k h c.control d.control es f refl refl r (top_sets w c d k h d.store d.frames (ok.0).frames))
+  base_moves _ _ n e (stopped {w = w} {c = c} {d = d} {es = es} h) = both_go (M.Stopped c es) (R.Stopped d es) n e (here (stopped h))
+  base_moves _ _ n e (lost {w = w} {c = c} {d = d} {es = es} h) = both_go (M.Lost c es) (R.Lost d es) n e (here (lost h))
+  base_moves _ _ n e (reading {w = w} {c = c} {d = d} {es = es} {q = q} {s = s} {x = x} {t = t} {l = l} {r = r} {fs = fs} k f ec ef ed lx i h) =
+      both_go (M.Running c es) (R.Running d es) n e
+      (subst₂ (λ m a. Goes p input (R.step_control (source p) d m es) (M.step_control (T.language (cells_of p) (order_of p)) c a es)) (sym ed) (sym ec)
+      (subst (λ gs. Goes p input (R.step_control (source p) d (R.Eval (Node q s (Local x)) r) es) (M.give_top (T.language (cells_of p) (order_of p)) c (At t) gs es)) (sym ef)
+      (gets-cell p input w c d k h q t l x r fs es i lx f)))
+  base_moves _ _ n e (setting {w = w} {c = c} {d = d} {es = es} {q = q} {s = s} {x = x} {t = t} {l = l} {e = b} {h = z} {r = r} {fs = fs} k f ec ef ed lx i good no_mark cv env h) =
+      both_go (M.Running c es) (R.Running d es) n e
+      (subst₂ (λ m a. Goes p input (R.step_control (source p) d m es) (M.step_control (T.language (cells_of p) (order_of p)) c a es)) (sym ed) (sym ec)
+      (subst (λ gs. Goes p input (R.step_control (source p) d (R.Eval (Node q s (SetLocal x b)) r) es) (M.give_top (T.language (cells_of p) (order_of p)) c (At t) gs es)) (sym ef)
+      (subst (λ o. Goes p input (R.set_local (source p) d o b r es) (T.evaluate_cut (target p) c (eliminate g b) z (M.push (T.Args q s (C.CellSet (cell_name g q s x) (eliminate g b)) (At t ∷ []) M.Empty) fs) es)) (sym lx)
+      (evaluates p input ready bodies same small w c d k h b (free_cells p b) z r _ (R.push (R.SetVar l) d.frames) es good (λ m. absurd (both_ways (is_mark b) no_mark m)) cv (λ y j. j) env (Rel.frame (Rel.set_cell i) f)))))
+
+  moves : (t : T.TreeState) (s : R.State) → Related t s → Moves t s
+  moves t s r = goes_moves t (r.0)
+    where
+      goes_moves : (t : T.TreeState) → Goes p input s t → Moves t s
+      goes_moves _ (here {t = t} b) = base_moves t s r.1 r.2 b
+      goes_moves _ (alone {t = t} a lt h) = Sim.target_moves (h, r.1, r.2) lt
+
+  alike : (t : T.TreeState) (s : R.State) → Related t s → Sim.Alike (tree_measured (cells_of p) (order_of p) input) (N.reference_measured p (order_of p) input) 0 t s
+  alike t s r = of_goes t r.0
+    where
+      of_base : (t : T.TreeState) (s : R.State) → Base p t s → Sim.Alike (tree_measured (cells_of p) (order_of p) input) (N.reference_measured p (order_of p) input) 0 t s
+      of_base _ _ (running {w = w} {c = c} {d = d} {es = es} k m f) = alike-held p w input (M.Running c es) (R.Running d es) refl (held p w c d k m f)
+      of_base _ _ (stopped {w = w} {c = c} {d = d} {es = es} h) = alike-held p w input (M.Stopped c es) (R.Stopped d es) refl h
+      of_base _ _ (lost {w = w} {c = c} {d = d} {es = es} h) = alike-held p w input (M.Lost c es) (R.Lost d es) refl h
+      of_base _ _ (reading {w = w} {c = c} {d = d} {es = es} k f ec ef ed lx i h) = alike-held p w input (M.Running c es) (R.Running d es) refl h
+      of_base _ _ (setting {w = w} {c = c} {d = d} {es = es} k f ec ef ed lx i good no_mark cv env h) = alike-held p w input (M.Running c es) (R.Running d es) refl h
+
+      of_goes : (t : T.TreeState) → Goes p input s t → Sim.Alike (tree_measured (cells_of p) (order_of p) input) (N.reference_measured p (order_of p) input) 0 t s
+      of_goes _ (here {t = t} b) = of_base t s b
+      of_goes _ (alone a lt h) = a
+
+  -- a program with cells keeps its source, with nothing beyond
+  pub cells-keep : Keeps (tree_measured (cells_of p) (order_of p) input) (N.reference_measured p (order_of p) input) 0
+  cells-keep = keeps_from (tree_measured (cells_of p) (order_of p) input) (N.reference_measured p (order_of p) input) 0 (record {
+    R = Related;
+    size_t = pending_state;
+    size_s = λ s. 0;
+    starts = (starts p input ready, 0, refl);
+    moves = moves;
+    alike = alike;
+    in_order = Steps.in_order p (order_of p) input;
+  })
