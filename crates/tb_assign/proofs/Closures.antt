@@ -18,13 +18,19 @@ use Rattle.tb_assign.proofs.Envs.{covers-gather, gather-cut}
 
 module _ (p : ProgramTree) (inner : (l : ℕ) → Same (inner_cells p l) (inner_free p l)) where
   captured_in : (l y : ℕ) → IsIn y (inner_cells p l) → IsIn y (F.captured (cells_of p) l)
-  captured_in l y i = in-tested (F.captured (cells_of p) l) y (first_of-in [] (inner_cells p l) y ∙ tested-in (inner_cells p l) y i)
+  captured_in l y i = in-tested (F.captured (cells_of p) l) y
+      (first_of-in [] (inner_cells p l) y ∙ tested-in (inner_cells p l) y i)
 
   captured_free : (l y : ℕ) → IsIn y (F.captured (cells_of p) l) → IsIn y (inner_free p l)
-  captured_free l y i = (inner l).to y (in-tested (inner_cells p l) y (sym (first_of-in [] (inner_cells p l) y) ∙ tested-in (F.captured (cells_of p) l) y i))
+  captured_free l y i = (inner l).to y
+      (in-tested (inner_cells p l) y
+      (sym (first_of-in [] (inner_cells p l) y) ∙ tested-in (F.captured (cells_of p) l) y i))
 
   -- a procedure that is made
-  pub closure-made : (w : World Value) (l : ℕ) (xs : List ℕ) (r : M.Env) (h : S.Env) → Covers xs r → ((y : ℕ) → IsIn y (inner_cells p l) → IsIn y xs) → EnvRel (is_assigned p) w r h → ItemRel p w (M.Clo l (M.gather (F.captured (cells_of p) l) r)) (S.Clo l (S.cut (inner_free p l) h))
+  pub closure-made : (w : World Value) (l : ℕ) (xs : List ℕ) (r : M.Env) (h : S.Env) → Covers xs r →
+      ((y : ℕ) → IsIn y (inner_cells p l) → IsIn y xs) → EnvRel (is_assigned p) w r h →
+      ItemRel p w (M.Clo l (M.gather (F.captured (cells_of p) l) r)) (S.Clo l (S.cut (inner_free p l) h))
   closure-made w l xs r h cv sub v =
-      Rel.closure (covers-gather xs (inner_cells p l) (F.captured (cells_of p) l) r cv sub (captured_in l)) (gather-cut (is_assigned p) w (F.captured (cells_of p) l) (inner_free p l) r h v (captured_free l))
+      Rel.closure (covers-gather xs (inner_cells p l) (F.captured (cells_of p) l) r cv sub (captured_in l))
+          (gather-cut (is_assigned p) w (F.captured (cells_of p) l) (inner_free p l) r h v (captured_free l))
 
