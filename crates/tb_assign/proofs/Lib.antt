@@ -17,3 +17,4 @@ pub mod Bodies
 pub mod Entries
 pub mod Groups
 pub mod Whole
+pub mod Scoped
