@@ -18,3 +18,4 @@ pub mod Entries
 pub mod Groups
 pub mod Whole
 pub mod Scoped
+pub mod InnerSmall
