@@ -12,7 +12,7 @@ use Rattle.tb_semantics.proofs.Worlds.{Entry, Both, Only, World, Grows, Stores, 
 use Rattle.tb_core.specs.Tree.{Tree, Node, Form, Local, SetLocal, Trees, ProgramTree}
 use Rattle.tb_core.specs.FreeVariables.{is_assigned}
 use Rattle.tb_core.specs.OperandOrder.{order_of}
-use Rattle.tb_core.specs.Rules.{Each}
+use Rattle.tb_core.specs.Rules.{Each, is_mark}
 use Rattle.tb_core.specs.Store as S
 use Rattle.tb_core.specs.Store.{Value, At, Unspecified, Object}
 use Rattle.tb_core.specs.Space as Space
@@ -76,20 +76,28 @@ pub record Ground (p : ProgramTree) (w : World Value) (c : T.TreeConfig) (d : R.
   pub met : c.met_end ≡ d.met_end
 
 pub data Base (p : ProgramTree) : T.TreeState → R.State → Type 0 where
-  running : {w : World Value} {c : T.TreeConfig} {d : R.Config} {es : List Event} → Ground p w c d → ControlRel p w d.frames c.control d.control → FramesRel p w c.frames d.frames → Base p (M.Running c es) (R.Running d es)
-  stopped : {w : World Value} {c : T.TreeConfig} {d : R.Config} {es : List Event} → Held p w c d → Base p (M.Stopped c es) (R.Stopped d es)
-  lost : {w : World Value} {c : T.TreeConfig} {d : R.Config} {es : List Event} → Held p w c d → Base p (M.Lost c es) (R.Lost d es)
+  running : {w : World Value} {c : T.TreeConfig} {d : R.Config} {es : List Event} → Ground p w c d →
+      ControlRel p w d.frames c.control d.control → FramesRel p w c.frames d.frames →
+      Base p (M.Running c es) (R.Running d es)
+  stopped : {w : World Value} {c : T.TreeConfig} {d : R.Config} {es : List Event} → Held p w c d →
+      Base p (M.Stopped c es) (R.Stopped d es)
+  lost : {w : World Value} {c : T.TreeConfig} {d : R.Config} {es : List Event} → Held p w c d →
+      Base p (M.Lost c es) (R.Lost d es)
   -- the cell of a variable that is read is known
   reading : {w : World Value} {c : T.TreeConfig} {d : R.Config} {es : List Event} {q : Place} {s x t l : ℕ} {r : S.Env} {fs : List (M.Frame T.TreeWork)} →
       Ground p w c d → FramesRel p w fs d.frames → c.control ≡ M.Val (At t) →
-      c.frames ≡ record { marked = false; work = M.Own (T.Args q s (C.CellGet (cell_name (is_assigned p) q s x)) [] M.Empty) } ∷ fs →
-      d.control ≡ R.Eval (Node q s (Local x)) r → S.lookup r x ≡ Some l → IsIn (Both t l) w → Held p w c d → Base p (M.Running c es) (R.Running d es)
+      c.frames ≡ record { marked = false; work = M.Own
+          (T.Args q s (C.CellGet (cell_name (is_assigned p) q s x)) [] M.Empty) } ∷ fs →
+      d.control ≡ R.Eval (Node q s (Local x)) r → S.lookup r x ≡ Some l → IsIn (Both t l) w → Held p w c d →
+          Base p (M.Running c es) (R.Running d es)
   -- the cell of a variable that is set is known
   setting : {w : World Value} {c : T.TreeConfig} {d : R.Config} {es : List Event} {q : Place} {s x t l : ℕ} {e : Tree} {h : M.Env} {r : S.Env} {fs : List (M.Frame T.TreeWork)} →
       Ground p w c d → FramesRel p w fs d.frames → c.control ≡ M.Val (At t) →
-      c.frames ≡ record { marked = false; work = M.Own (T.Args q s (C.CellSet (cell_name (is_assigned p) q s x) (eliminate (is_assigned p) e)) [] h) } ∷ fs →
+      c.frames ≡ record { marked = false; work = M.Own
+          (T.Args q s (C.CellSet (cell_name (is_assigned p) q s x) (eliminate (is_assigned p) e)) [] h) } ∷ fs →
       d.control ≡ R.Eval (Node q s (SetLocal x e)) r → S.lookup r x ≡ Some l → IsIn (Both t l) w →
-      Covers (Rel.free_cells p e) h → EnvRel (is_assigned p) w h r → Held p w c d → Base p (M.Running c es) (R.Running d es)
+      Each (Rel.Good p) e → is_mark e ≡ false → Covers (Rel.free_cells p e) h → EnvRel (is_assigned p) w h r →
+          Held p w c d → Base p (M.Running c es) (R.Running d es)
 
 abbrev pub step : ProgramTree → T.TreeState → T.TreeState
 step p = M.step (T.language (cells_of p) (order_of p))
@@ -100,31 +108,40 @@ source_step p = R.step (R.context_of p (order_of p))
 -- a state of the program with cells that comes to a related one by itself
 pub data Goes (p : ProgramTree) (input : List ℕ) (s : R.State) : T.TreeState → Type 0 where
   here : {t : T.TreeState} → Base p t s → Goes p input s t
-  alone : {t : T.TreeState} → Sim.Alike (tree_measured (cells_of p) (order_of p) input) (N.reference_measured p (order_of p) input) 0 t s →
+  alone : {t : T.TreeState} →
+      Sim.Alike (tree_measured (cells_of p) (order_of p) input) (N.reference_measured p (order_of p) input) 0 t s →
       pending_state (step p t) < pending_state t → Goes p input s (step p t) → Goes p input s t
 
-frames_marks : (p : ProgramTree) (w : World Value) (fs : List (M.Frame T.TreeWork)) (hs : List R.Frame) → FramesRel p w fs hs → V.marks fs ≡ N.marks hs
+frames_marks : (p : ProgramTree) (w : World Value) (fs : List (M.Frame T.TreeWork)) (hs : List R.Frame) →
+    FramesRel p w fs hs → V.marks fs ≡ N.marks hs
 frames_marks p w _ _ Rel.no_frame = refl
 frames_marks p w _ _ (Rel.frame {m = true} h hs) = ap (λ n. 1 + n) (frames_marks p w _ _ hs)
 frames_marks p w _ _ (Rel.frame {m = false} h hs) = ap (λ n. 0 + n) (frames_marks p w _ _ hs)
 
-same_long : (w : World Value) (b : Bool) (vs us : List Value) → AlikeLists (Partner w) (IsTrue b) vs us → length vs ≡ length us
+same_long : (w : World Value) (b : Bool) (vs us : List Value) → AlikeLists (Partner w) (IsTrue b) vs us →
+    length vs ≡ length us
 same_long w b _ _ Like.nothing = refl
 same_long w b _ _ (Like.further h hs) = ap suc (same_long w b _ _ hs)
 
 module _ (p : ProgramTree) (w : World Value) (c : T.TreeConfig) (d : R.Config) (g : Ground p w c d) where
 
-  match_statics : Matches w (sources p w d.store (source_roots p d)) (below (length p.statics)) (below (length p.statics))
+  match_statics : Matches w (sources p w d.store (source_roots p d)) (below (length p.statics))
+      (below (length p.statics))
   match_statics = record { by = λ all l i. (l, all l i, g.statics l (in_below (length p.statics) l i)) }
 
-  match_control : (hs : List R.Frame) (k : M.Control C.Tree) (m : R.Control) → ControlRel p w hs k m → Matches w (sources p w d.store (source_roots p d)) (V.control_locations k) (Space.control_locations m)
-  match_control hs _ _ (Rel.eval n mark v e) = match-env p w d.store (source_roots p d) (holds-for p w c.store d.store (source_roots p d) g.stores) _ _ _ e
-  match_control hs _ _ (Rel.bound n mark v e) = match-env p w d.store (source_roots p d) (holds-for p w c.store d.store (source_roots p d) g.stores) _ _ _ e
+  match_control : (hs : List R.Frame) (k : M.Control C.Tree) (m : R.Control) → ControlRel p w hs k m →
+      Matches w (sources p w d.store (source_roots p d)) (V.control_locations k) (Space.control_locations m)
+  match_control hs _ _ (Rel.eval n mark v e) = match-env p w d.store (source_roots p d)
+      (holds-for p w c.store d.store (source_roots p d) g.stores) _ _ _ e
+  match_control hs _ _ (Rel.bound n mark v e) = match-env p w d.store (source_roots p d)
+      (holds-for p w c.store d.store (source_roots p d) g.stores) _ _ _ e
   match_control hs _ _ (Rel.val h) = match-value w _ _ _ _ h
-  match_control hs _ _ (Rel.entering {t = t} {s = s} i h) = match-append w _ (match-one w _ t s i) (match-values w _ false _ _ h)
+  match_control hs _ _ (Rel.entering {t = t} {s = s} i h) = match-append w _ (match-one w _ t s i)
+      (match-values w _ false _ _ h)
 
   -- the frames and the control may be others than related ones, with what they have matched
-  pub held-by : (fs : List (M.Frame T.TreeWork)) (k : List ℕ) → FramesRel p w fs d.frames → V.marks c.frames ≡ V.marks fs →
+  pub held-by : (fs : List (M.Frame T.TreeWork)) (k : List ℕ) → FramesRel p w fs d.frames →
+      V.marks c.frames ≡ V.marks fs →
       Matches w (sources p w d.store (source_roots p d)) k (Space.control_locations d.control) →
       V.control_locations c.control ++ V.frames_locations T.work_values c.frames ≡ k ++ V.frames_locations T.work_values fs → Held p w c d
   held-by fs k f m h e = record {
@@ -132,10 +149,13 @@ module _ (p : ProgramTree) (w : World Value) (c : T.TreeConfig) (d : R.Config) (
     globals_long = same_long w true c.globals d.globals g.globals;
     stores = g.stores;
     roots = subst
-        (λ ls. (t : ℕ) → IsIn t (below (length p.statics) ++ ls) → HasMatch (Partner w) (sources p w d.store (source_roots p d)) t)
-        (sym (append_assoc k _ _) ∙ ap (λ ls. ls ++ values_locations c.globals) (sym e) ∙ append_assoc (V.control_locations c.control) _ _)
+        (λ ls. (t : ℕ) → IsIn t (below (length p.statics) ++ ls) →
+            HasMatch (Partner w) (sources p w d.store (source_roots p d)) t)
+        (sym (append_assoc k _ _) ∙ ap (λ ls. ls ++ values_locations c.globals) (sym e)
+            ∙ append_assoc (V.control_locations c.control) _ _)
         ((match-append w _ match_statics (match-append w _ h (match-append w _
-        (match-frames p w d.store (source_roots p d) (holds-for p w c.store d.store (source_roots p d) g.stores) fs d.frames f)
+        (match-frames p w d.store (source_roots p d)
+            (holds-for p w c.store d.store (source_roots p d) g.stores) fs d.frames f)
         (match-values w _ true c.globals d.globals g.globals)))).by (λ l i. root i));
   }
 

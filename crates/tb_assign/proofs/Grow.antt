@@ -27,7 +27,8 @@ module _ (P Q : ℕ → ℕ → Type 0) (U V : Type 0) (wider : (a b : ℕ) → 
 
   pub lists_wider : (vs us : List Value) → AlikeLists P U vs us → AlikeLists Q V vs us
   lists_wider _ _ Like.nothing = Like.nothing
-  lists_wider _ _ (Like.further {v = v} {w = u} {vs = vs} {ws = us} h hs) = Like.further (values_wider v u h) (lists_wider vs us hs)
+  lists_wider _ _ (Like.further {v = v} {w = u} {vs = vs} {ws = us} h hs) = Like.further (values_wider v u h)
+      (lists_wider vs us hs)
 
   pub objects_wider : (o n : Object) → AlikeObjects P U o n → AlikeObjects Q V o n
   objects_wider _ _ (Like.pair h k) = Like.pair (values_wider _ _ h) (values_wider _ _ k)
@@ -69,7 +70,8 @@ module _ (w v : World Value) (g : Grows w v) where
 
     pub item_grows : (i : M.Item) (j : S.Item) → ItemRel p w i j → ItemRel p v i j
     item_grows _ _ (Rel.cell h) = Rel.cell (alike_grows true _ _ h)
-    item_grows _ _ (Rel.object h) = Rel.object (objects_wider (Partner w) (Partner v) (IsTrue false) (IsTrue false) (λ a c i. g (Both a c) i) (λ u. u) _ _ h)
+    item_grows _ _ (Rel.object h) = Rel.object
+        (objects_wider (Partner w) (Partner v) (IsTrue false) (IsTrue false) (λ a c i. g (Both a c) i) (λ u. u) _ _ h)
     item_grows _ _ (Rel.closure c e) = Rel.closure c (env_grows _ _ _ e)
 
     pub known_grows : (j : S.Item) (x : Value) → Known p w j x → Known p v j x

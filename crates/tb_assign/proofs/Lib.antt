@@ -9,3 +9,13 @@ pub mod Simple
 pub mod Lines
 pub mod Nodes
 pub mod Moves
+pub mod Closures
+pub mod Step
+pub mod Bound
+pub mod Making
+pub mod Bodies
+pub mod Entries
+pub mod Groups
+pub mod Whole
+pub mod Scoped
+pub mod InnerSmall

@@ -41,22 +41,26 @@ cell_all i = V.closures_in i + V.words_in i
 abbrev source_all : S.Item → ℕ
 source_all j = N.closures_in j + N.words_in j
 
-alike_length : (w : World Value) (b : Bool) (vs us : List Value) → AlikeLists (Partner w) (IsTrue b) vs us → length vs ≡ length us
+alike_length : (w : World Value) (b : Bool) (vs us : List Value) → AlikeLists (Partner w) (IsTrue b) vs us →
+    length vs ≡ length us
 alike_length w b _ _ Like.nothing = refl
 alike_length w b _ _ (Like.further h hs) = ap suc (alike_length w b _ _ hs)
 
-object_same : (w : World Value) (o n : Object) → AlikeObjects (Partner w) (IsTrue false) o n → object_size o ≡ object_size n
+object_same : (w : World Value) (o n : Object) → AlikeObjects (Partner w) (IsTrue false) o n →
+    object_size o ≡ object_size n
 object_same w _ _ (Like.pair h k) = refl
 object_same w _ _ (Like.vec hs) = ap (λ n. n + 1) (alike_length w false _ _ hs)
 object_same w _ _ Like.str = refl
 object_same w _ _ Like.sym = refl
 
-closures_within : (p : ProgramTree) (w : World Value) (i : M.Item) (j : S.Item) → ItemRel p w i j → V.closures_in i ≤ N.closures_in j
+closures_within : (p : ProgramTree) (w : World Value) (i : M.Item) (j : S.Item) → ItemRel p w i j →
+    V.closures_in i ≤ N.closures_in j
 closures_within p w _ _ (Rel.cell h) = omega arith
 closures_within p w _ _ (Rel.object h) = omega arith
 closures_within p w _ _ (Rel.closure c e) = omega arith
 
-words_within : (p : ProgramTree) (w : World Value) (i : M.Item) (j : S.Item) → ItemRel p w i j → V.words_in i ≤ N.words_in j
+words_within : (p : ProgramTree) (w : World Value) (i : M.Item) (j : S.Item) → ItemRel p w i j →
+    V.words_in i ≤ N.words_in j
 words_within p w _ _ (Rel.cell h) = omega arith
 words_within p w _ _ (Rel.object h) = let e = object_same w _ _ h in omega arith
 words_within p w _ _ (Rel.closure c e) = omega arith
@@ -80,10 +84,12 @@ source_made ss = by_items ss ∙ sym (made_size-items (source_measure source_all
 
 -- the roots of both stores
 abbrev pub cell_roots : ProgramTree → T.TreeConfig → List ℕ
-cell_roots p c = below (length p.statics) ++ (V.control_locations c.control ++ (V.frames_locations T.work_values c.frames ++ values_locations c.globals))
+cell_roots p c = below (length p.statics) ++
+    (V.control_locations c.control ++ (V.frames_locations T.work_values c.frames ++ values_locations c.globals))
 
 abbrev pub source_roots : ProgramTree → R.Config → List ℕ
-source_roots p d = below (length p.statics) ++ (Space.control_locations d.control ++ (Space.frames_locations d.frames ++ values_locations d.globals))
+source_roots p d = below (length p.statics) ++
+    (Space.control_locations d.control ++ (Space.frames_locations d.frames ++ values_locations d.globals))
 
 -- what two configurations hold
 pub record Held (p : ProgramTree) (w : World Value) (c : T.TreeConfig) (d : R.Config) : Type 0 where
@@ -92,28 +98,37 @@ pub record Held (p : ProgramTree) (w : World Value) (c : T.TreeConfig) (d : R.Co
   pub stores : Stores (items p) w w c.store d.store
   pub roots : (t : ℕ) → IsIn t (cell_roots p c) → HasMatch (Partner w) (sources p w d.store (source_roots p d)) t
 
-pub holds-for : (p : ProgramTree) (w : World Value) (st : List M.Item) (ss : List S.Item) (roots : List ℕ) → Stores (items p) w w st ss → HoldsFor p w ss roots
+pub holds-for : (p : ProgramTree) (w : World Value) (st : List M.Item) (ss : List S.Item) (roots : List ℕ) →
+    Stores (items p) w w st ss → HoldsFor p w ss roots
 holds-for p w st ss roots h s v i = let k = h.holds s v i in of_known k.other k.there k.known
   where
-    of_known : (j : S.Item) → slice_get ss s ≡ Some j → Known p w j v → (u : Value) × (slice_get ss s ≡ Some (S.Var u)) × Alike w false v u
+    of_known : (j : S.Item) → slice_get ss s ≡ Some j → Known p w j v →
+        (u : Value) × (slice_get ss s ≡ Some (S.Var u)) × Alike w false v u
     of_known _ e (Rel.holds {u = u} k) = (u, e, k)
 
-module _ (p : ProgramTree) (w : World Value) (c : T.TreeConfig) (d : R.Config) (h : Held p w c d) (a : M.Item → ℕ) (b : S.Item → ℕ) (sizes : (i : M.Item) (j : S.Item) → ItemRel p w i j → a i ≤ b j) where
-  held_total : total (λ l. V.of_item a (slice_get c.store l)) (V.store_graph T.work_values (length p.statics) c) ≤ total (λ l. N.of_item b (slice_get d.store l)) (Space.store_graph (length p.statics) d)
+module _ (p : ProgramTree) (w : World Value) (c : T.TreeConfig) (d : R.Config) (h : Held p w c d) (a : M.Item → ℕ)
+    (b : S.Item → ℕ) (sizes : (i : M.Item) (j : S.Item) → ItemRel p w i j → a i ≤ b j) where
+  held_total : total (λ l. V.of_item a (slice_get c.store l))
+      (V.store_graph T.work_values (length p.statics) c) ≤ total (λ l. N.of_item b (slice_get d.store l))
+      (Space.store_graph (length p.statics) d)
   held_total =
       total-stores M.Item S.Item Value (items p) w w c.store d.store h.stores (cell_measure a) (source_measure b) sizes
       (cell_roots p c) (source_roots p d) h.roots
-      (λ i j k all. (match-item p w d.store (source_roots p d) (holds-for p w c.store d.store (source_roots p d) h.stores) i j k).by all)
+      (λ i j k all.
+          (match-item p w d.store (source_roots p d)
+          (holds-for p w c.store d.store (source_roots p d) h.stores) i j k).by all)
 
 -- related states, from what they hold
-pub alike-held : (p : ProgramTree) (w : World Value) (input : List ℕ) (t : T.TreeState) (s : R.State) → M.events_of t ≡ R.events_of s → Held p w (M.config_of t) (R.config_of s) →
+pub alike-held : (p : ProgramTree) (w : World Value) (input : List ℕ) (t : T.TreeState) (s : R.State) →
+    M.events_of t ≡ R.events_of s → Held p w (M.config_of t) (R.config_of s) →
     Sim.Alike (tree_measured (cells_of p) (order_of p) input) (N.reference_measured p (order_of p) input) 0 t s
 alike-held p w input t s e h =
     let c = M.config_of t in
     let d = R.config_of s in
     let closures = held_total p w c d h V.closures_in N.closures_in (closures_within p w) in
     let words = held_total p w c d h V.words_in N.words_in (words_within p w) in
-    let made = made-stores M.Item S.Item Value (items p) w w c.store d.store h.stores (cell_measure cell_all) (source_measure source_all) (all_within p w) in
+    let made = made-stores M.Item S.Item Value (items p) w w c.store d.store h.stores (cell_measure cell_all)
+        (source_measure source_all) (all_within p w) in
     let of_cells = cells_made c.store in
     let of_source = source_made d.store in
     let marks = h.marks in

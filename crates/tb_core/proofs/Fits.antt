@@ -27,31 +27,38 @@ module _ (st : ℕ → Content) where
   fit_fix (Fix n) k h = h n
   fit_fix _ k h = fails
 
-  fit_char : {right : Type 0} (v : Value) (k : ℕ → Effect) → ((n : ℕ) → Fit st right (k n)) → Fit st right (with_char v k)
+  fit_char : {right : Type 0} (v : Value) (k : ℕ → Effect) → ((n : ℕ) → Fit st right (k n)) →
+      Fit st right (with_char v k)
   fit_char (Char n) k h = h n
   fit_char _ k h = fails
 
-  fit_seen : {right : Type 0} (o : Content) (k : Object → Effect) → ((i : Object) → o ≡ Holds i → Fit st right (k i)) → Fit st right (if_object o k)
+  fit_seen : {right : Type 0} (o : Content) (k : Object → Effect) →
+      ((i : Object) → o ≡ Holds i → Fit st right (k i)) → Fit st right (if_object o k)
   fit_seen (Holds i) k h = h i refl
   fit_seen _ k h = fails
 
-  fit_object : {right : Type 0} (v : Value) (k : ℕ → Object → Effect) → ((l : ℕ) (i : Object) → st l ≡ Holds i → Fit st right (k l i)) → Fit st right (with_object st v k)
+  fit_object : {right : Type 0} (v : Value) (k : ℕ → Object → Effect) →
+      ((l : ℕ) (i : Object) → st l ≡ Holds i → Fit st right (k l i)) → Fit st right (with_object st v k)
   fit_object (At l) k h = fit_seen (st l) (k l) (h l)
   fit_object _ k h = fails
 
-  fit_pair : {right : Type 0} (i : Object) (k : Value → Value → Effect) → ((x y : Value) → i ≡ Pair x y → Fit st right (k x y)) → Fit st right (if_pair i k)
+  fit_pair : {right : Type 0} (i : Object) (k : Value → Value → Effect) →
+      ((x y : Value) → i ≡ Pair x y → Fit st right (k x y)) → Fit st right (if_pair i k)
   fit_pair (Pair x y) k h = h x y refl
   fit_pair _ k h = fails
 
-  fit_vector : {right : Type 0} (i : Object) (k : List Value → Effect) → ((vs : List Value) → i ≡ Vec vs → Fit st right (k vs)) → Fit st right (if_vector i k)
+  fit_vector : {right : Type 0} (i : Object) (k : List Value → Effect) →
+      ((vs : List Value) → i ≡ Vec vs → Fit st right (k vs)) → Fit st right (if_vector i k)
   fit_vector (Vec vs) k h = h vs refl
   fit_vector _ k h = fails
 
-  fit_string : {right : Type 0} (i : Object) (k : List ℕ → Effect) → ((cs : List ℕ) → i ≡ Str cs → Fit st right (k cs)) → Fit st right (if_string i k)
+  fit_string : {right : Type 0} (i : Object) (k : List ℕ → Effect) →
+      ((cs : List ℕ) → i ≡ Str cs → Fit st right (k cs)) → Fit st right (if_string i k)
   fit_string (Str cs) k h = h cs refl
   fit_string _ k h = fails
 
-  fit_symbol : {right : Type 0} (i : Object) (k : List ℕ → Effect) → ((cs : List ℕ) → i ≡ Sym cs → Fit st right (k cs)) → Fit st right (if_symbol i k)
+  fit_symbol : {right : Type 0} (i : Object) (k : List ℕ → Effect) →
+      ((cs : List ℕ) → i ≡ Sym cs → Fit st right (k cs)) → Fit st right (if_symbol i k)
   fit_symbol (Sym cs) k h = h cs refl
   fit_symbol _ k h = fails
 
@@ -59,7 +66,8 @@ module _ (st : ℕ → Content) where
   fit_either true s t p q = p
   fit_either false s t p q = q
 
-  fit_index : {right : Type 0} (n : ℤ) (bound : ℕ) (k : ℕ → Effect) → ((i : ℕ) → Fit st right (k i)) → Fit st right (with_index n bound k)
+  fit_index : {right : Type 0} (n : ℤ) (bound : ℕ) (k : ℕ → Effect) → ((i : ℕ) → Fit st right (k i)) →
+      Fit st right (with_index n bound k)
   fit_index (pos n) bound k h = fit_either (nat_lt n bound) _ _ (h n) fails
   fit_index (negsuc n) bound k h = fails
 
@@ -70,7 +78,8 @@ module _ (st : ℕ → Content) where
   fit_gives_fix : {right : Type 0} (n : ℤ) → Fit st right (gives_fix n)
   fit_gives_fix n = fit_either (is_fixnum n) _ _ gives fails
 
-  fit_length : {right : Type 0} (v : Value) (k : ℕ → Effect) → ((i : ℕ) → Fit st right (k i)) → Fit st right (with_length v k)
+  fit_length : {right : Type 0} (v : Value) (k : ℕ → Effect) → ((i : ℕ) → Fit st right (k i)) →
+      Fit st right (with_length v k)
   fit_length v k h = fit_fix v _ (λ n. fit_index n _ k h)
 
   fit_0 : (q : Primitive) → Fit st (0 ≡ arity_of q) (effect_0 q)
@@ -105,13 +114,16 @@ module _ (st : ℕ → Content) where
 
   fit_2 : (q : Primitive) (a b : Value) → Fit st (2 ≡ arity_of q) (effect_2 st q a b)
   fit_2 Cons a b = makes
-  fit_2 SetCar a b = fit_object a _ (λ l i e. fit_pair i _ (λ x y f. changes (Pair x y) (e ∙ ap Holds f) (pair_kind x y b y)))
-  fit_2 SetCdr a b = fit_object a _ (λ l i e. fit_pair i _ (λ x y f. changes (Pair x y) (e ∙ ap Holds f) (pair_kind x y x b)))
+  fit_2 SetCar a b = fit_object a _
+      (λ l i e. fit_pair i _ (λ x y f. changes (Pair x y) (e ∙ ap Holds f) (pair_kind x y b y)))
+  fit_2 SetCdr a b = fit_object a _
+      (λ l i e. fit_pair i _ (λ x y f. changes (Pair x y) (e ∙ ap Holds f) (pair_kind x y x b)))
   fit_2 Eq a b = gives
   fit_2 Add a b = fit_fix a _ (λ m. fit_fix b _ (λ n. fit_gives_fix (m +ℤ n)))
   fit_2 Sub a b = fit_fix a _ (λ m. fit_fix b _ (λ n. fit_gives_fix (m -ℤ n)))
   fit_2 Mul a b = fit_fix a _ (λ m. fit_fix b _ (λ n. fit_gives_fix (m *ℤ n)))
-  fit_2 Quotient a b = fit_fix a _ (λ m. fit_fix b _ (λ n. fit_either (is_zero n) _ _ fails (fit_gives_fix (int_div m n))))
+  fit_2 Quotient a b = fit_fix a _
+      (λ m. fit_fix b _ (λ n. fit_either (is_zero n) _ _ fails (fit_gives_fix (int_div m n))))
   fit_2 Remainder a b = fit_fix a _ (λ m. fit_fix b _ (λ n. fit_either (is_zero n) _ _ fails gives))
   fit_2 Modulo a b = fit_fix a _ (λ m. fit_fix b _ (λ n. fit_either (is_zero n) _ _ fails gives))
   fit_2 NumEq a b = fit_fix a _ (λ m. fit_fix b _ (λ n. gives))
@@ -119,14 +131,24 @@ module _ (st : ℕ → Content) where
   fit_2 Greater a b = fit_fix a _ (λ m. fit_fix b _ (λ n. gives))
   fit_2 LessEq a b = fit_fix a _ (λ m. fit_fix b _ (λ n. gives))
   fit_2 GreaterEq a b = fit_fix a _ (λ m. fit_fix b _ (λ n. gives))
-  fit_2 VectorRef a b = fit_object a _ (λ l i e. fit_vector i _ (λ vs f. fit_fix b _ (λ n. fit_index n _ _ (λ k. fit_gives_at (slice_get vs k) _))))
-  fit_2 StringRef a b = fit_object a _ (λ l i e. fit_string i _ (λ cs f. fit_fix b _ (λ n. fit_index n _ _ (λ k. fit_gives_at (slice_get cs k) _))))
-  fit_2 SymbolRef a b = fit_object a _ (λ l i e. fit_symbol i _ (λ cs f. fit_fix b _ (λ n. fit_index n _ _ (λ k. fit_gives_at (slice_get cs k) _))))
+  fit_2 VectorRef a b = fit_object a _
+      (λ l i e. fit_vector i _ (λ vs f. fit_fix b _ (λ n. fit_index n _ _ (λ k. fit_gives_at (slice_get vs k) _))))
+  fit_2 StringRef a b = fit_object a _
+      (λ l i e. fit_string i _ (λ cs f. fit_fix b _ (λ n. fit_index n _ _ (λ k. fit_gives_at (slice_get cs k) _))))
+  fit_2 SymbolRef a b = fit_object a _
+      (λ l i e. fit_symbol i _ (λ cs f. fit_fix b _ (λ n. fit_index n _ _ (λ k. fit_gives_at (slice_get cs k) _))))
   fit_2 _ a b = misused (λ h. absurd (omega (arith, h)))
 
   fit_3 : (q : Primitive) (a b c : Value) → Fit st (3 ≡ arity_of q) (effect_3 st q a b c)
-  fit_3 VectorSet a b c = fit_object a _ (λ l i e. fit_vector i _ (λ vs f. fit_fix b _ (λ n. fit_index n _ _ (λ k. changes (Vec vs) (e ∙ ap Holds f) (vec_kind vs _ (sym (length-set vs k c)))))))
-  fit_3 StringSet a b c = fit_object a _ (λ l i e. fit_string i _ (λ cs f. fit_fix b _ (λ n. fit_char c _ (λ ch. fit_index n _ _ (λ k. changes (Str cs) (e ∙ ap Holds f) (str_kind cs _ (sym (length-set cs k ch))))))))
+  fit_3 VectorSet a b c = fit_object a _
+      (λ l i e. fit_vector i _
+      (λ vs f. fit_fix b _
+      (λ n. fit_index n _ _ (λ k. changes (Vec vs) (e ∙ ap Holds f) (vec_kind vs _ (sym (length-set vs k c)))))))
+  fit_3 StringSet a b c = fit_object a _
+      (λ l i e. fit_string i _
+      (λ cs f. fit_fix b _
+      (λ n. fit_char c _
+      (λ ch. fit_index n _ _ (λ k. changes (Str cs) (e ∙ ap Holds f) (str_kind cs _ (sym (length-set cs k ch))))))))
   fit_3 _ a b c = misused (λ h. absurd (omega (arith, h)))
 
   at_most_three : (q : Primitive) → arity_of q ≤ 3

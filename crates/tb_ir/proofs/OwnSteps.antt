@@ -21,7 +21,8 @@ module _ (x : Context) (c : TreeConfig) where
   sequence (more e none) r fs es = S.stays c _ fs es
   sequence (more e (more d ds)) r fs es = S.stays c _ _ es
 
-  complete : (p : Place) (f : Form) (vs : List Value) (r : Env) (fs : Frames) (es : List Event) → Stepped c es (T.complete x c p f vs r fs es)
+  complete : (p : Place) (f : Form) (vs : List Value) (r : Env) (fs : Frames) (es : List Event) →
+      Stepped c es (T.complete x c p f vs r fs es)
   complete p (NewCell e) (v ∷ []) r fs es = S.grows c _ fs _ es
   complete p (CellGet e) (v ∷ []) r fs es = S.get_cell c p v fs es
   complete p (CellSet d e) (v ∷ w ∷ []) r fs es = S.set_cell c v w fs es
@@ -32,15 +33,18 @@ module _ (x : Context) (c : TreeConfig) where
   complete p (Let xs ds e) vs r fs es = S.stays c _ fs es
   complete p _ vs r fs es = lost
 
-  operand : (p : Place) (s : ℕ) (f : Form) (vs : List Value) (r : Env) (ns : List ℕ) (e : Option Tree) (fs : Frames) (es : List Event) → Stepped c es (T.operand x c p s f vs r ns e fs es)
+  operand : (p : Place) (s : ℕ) (f : Form) (vs : List Value) (r : Env) (ns : List ℕ) (e : Option Tree) (fs : Frames)
+      (es : List Event) → Stepped c es (T.operand x c p s f vs r ns e fs es)
   operand p s f vs r ns None fs es = lost
   operand p s f vs r ns (Some e) fs es = S.stays c _ _ es
 
-  operands_left : (p : Place) (s : ℕ) (f : Form) (vs : List Value) (r : Env) (all ns : List ℕ) (fs : Frames) (es : List Event) → Stepped c es (T.operands_left x c p s f vs r all ns fs es)
+  operands_left : (p : Place) (s : ℕ) (f : Form) (vs : List Value) (r : Env) (all ns : List ℕ) (fs : Frames)
+      (es : List Event) → Stepped c es (T.operands_left x c p s f vs r all ns fs es)
   operands_left p s f vs r all [] fs es = complete p f _ r fs es
   operands_left p s f vs r all (n ∷ ns) fs es = operand p s f vs r ns _ fs es
 
-  continue : (p : Place) (s : ℕ) (f : Form) (vs : List Value) (r : Env) (fs : Frames) (es : List Event) → Stepped c es (T.continue x c p s f vs r fs es)
+  continue : (p : Place) (s : ℕ) (f : Form) (vs : List Value) (r : Env) (fs : Frames) (es : List Event) →
+      Stepped c es (T.continue x c p s f vs r fs es)
   continue p s f vs r fs es = operands_left p s f vs r _ _ fs es
 
   eval_form : (p : Place) (s : ℕ) (f : Form) (r : Env) (es : List Event) → Stepped c es (T.eval_form x c p s f r es)
@@ -79,11 +83,13 @@ tree-steps p order = record {
 }
 
 module _ (captured : ℕ → List ℕ) (c : AnfConfig) where
-  with_value : (v : Option Value) (es : List Event) (k : Value → AnfState) → ((v : Value) → Stepped c es (k v)) → Stepped c es (N.with_value c v es k)
+  with_value : (v : Option Value) (es : List Event) (k : Value → AnfState) → ((v : Value) → Stepped c es (k v)) →
+      Stepped c es (N.with_value c v es k)
   with_value None es k h = lost
   with_value (Some v) es k h = h v
 
-  with_values : (vs : Option (List Value)) (es : List Event) (k : List Value → AnfState) → ((vs : List Value) → Stepped c es (k vs)) → Stepped c es (N.with_values c vs es k)
+  with_values : (vs : Option (List Value)) (es : List Event) (k : List Value → AnfState) →
+      ((vs : List Value) → Stepped c es (k vs)) → Stepped c es (N.with_values c vs es k)
   with_values None es k h = lost
   with_values (Some vs) es k h = h vs
 
@@ -99,7 +105,8 @@ module _ (captured : ℕ → List ℕ) (c : AnfConfig) where
   run_cell_set es (v ∷ w ∷ []) = S.set_cell c v w _ es
   run_cell_set es _ = lost
 
-  run_branch : (v : Value) (b d : A.Block) (r : Env) (es : List Event) → Stepped c es (N.run_branch captured c v b d r es)
+  run_branch : (v : Value) (b d : A.Block) (r : Env) (es : List Event) →
+      Stepped c es (N.run_branch captured c v b d r es)
   run_branch v b d r es = S.either c es _ (S.stays c _ _ es) (S.stays c _ _ es)
 
   run_op : (op : A.Op) (r : Env) (es : List Event) → Stepped c es (N.run_op captured c op r es)

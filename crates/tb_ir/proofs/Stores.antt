@@ -17,7 +17,9 @@ made-append [] is = omega arith
 made-append (i ∷ st) is = let h = made-append st is in omega arith
 
 -- an item that is changed into another of its size
-pub made-set : (st : List Item) (l : ℕ) (old i : Item) → slice_get st l ≡ Some old → closures_in old + words_in old ≡ closures_in i + words_in i → made (slice_set st l i) ≡ made st
+pub made-set : (st : List Item) (l : ℕ) (old i : Item) → slice_get st l ≡ Some old →
+    closures_in old + words_in old ≡ closures_in i + words_in i → made (slice_set st l i) ≡ made st
 made-set [] l old i e s = cc
-made-set (x ∷ st) zero old i e s = ap (λ n. n + made st) (sym s ∙ sym (ap (λ j. closures_in j + words_in j) (same_Some x old e)))
+made-set (x ∷ st) zero old i e s = ap (λ n. n + made st)
+    (sym s ∙ sym (ap (λ j. closures_in j + words_in j) (same_Some x old e)))
 made-set (x ∷ st) (suc l) old i e s = ap (λ n. (closures_in x + words_in x) + n) (made-set st l old i e s)

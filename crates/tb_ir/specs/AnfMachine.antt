@@ -105,7 +105,8 @@ evaluate_cut captured c e r fs es = go c (Eval e (gather (free_code captured e) 
 -- the block that is chosen
 abbrev pub run_branch : (ℕ → List ℕ) → AnfConfig → Value → Block → Block → Env → List Event → AnfState
 run_branch captured c v b d r es =
-    cond (is_false v) (evaluate_cut captured c (InBlock d) r c.frames es) (evaluate_cut captured c (InBlock b) r c.frames es)
+    cond (is_false v) (evaluate_cut captured c (InBlock d) r c.frames es)
+        (evaluate_cut captured c (InBlock b) r c.frames es)
 
 -- an operation whose environment is cut to it
 abbrev pub run_op : (ℕ → List ℕ) → AnfConfig → Op → Env → List Event → AnfState
@@ -123,7 +124,8 @@ run_op captured c (Direct l ds) r es = with_values c (atom_values r ds) es (λ v
 run_op captured c (Apply f l p) r es = with_values c (atom_values r (f ∷ l ∷ [])) es (run_apply c p es)
 run_op captured c (Branch a b d) r es =
     with_value c (atom_value r a) es (λ v.
-    cond (is_false v) (evaluate_cut captured c (InBlock d) r c.frames es) (evaluate_cut captured c (InBlock b) r c.frames es))
+    cond (is_false v) (evaluate_cut captured c (InBlock d) r c.frames es)
+        (evaluate_cut captured c (InBlock b) r c.frames es))
 
 -- the operation of a `Bind` is evaluated above a frame with the variable and the block after it; procedures that
 -- are made together name one another

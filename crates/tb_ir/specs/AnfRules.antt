@@ -219,7 +219,8 @@ pub record ProcKeeps (p : AnfTree) (q : ProcTree) : Type 0 where
   pub apart : IsApart (q.params ++ (q.captured ++ of_each binders (blocks q.body)))
   pub in_scope : Every (λ x. is_in q.captured x ≡ true) (names_outside p q)
   pub captures_named : Every (λ x. is_in (names_outside p q) x ≡ true) q.captured
-  pub makes_cells : Every (MakesCell p (q.params ++ of_each plain_binders (blocks q.body))) (of_each operation (blocks q.body))
+  pub makes_cells : Every (MakesCell p (q.params ++ of_each plain_binders (blocks q.body)))
+      (of_each operation (blocks q.body))
   pub inner_greater : InnerGreater q.lambda (of_each standing_at (blocks q.body))
   pub rest_has_name : q.rest ≡ true → 1 ≤ length q.params
   pub lifted_alone : q.lifted ≡ true → (q.captured ≡ []) × (q.rest ≡ false) × (is_form q ≡ false)

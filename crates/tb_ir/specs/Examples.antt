@@ -140,7 +140,8 @@ deep =
 abbrev pub shared_cell : Ordered
 shared_cell =
     program 0 (
-    lambda_at 5 [] None (node 6 (CellSet (local 7 1) (letter 8 66))) ∷ lambda_at 9 [] None (node 10 (CellGet (local 11 1))) ∷ []
+    lambda_at 5 [] None (node 6 (CellSet (local 7 1) (letter 8 66))) ∷ lambda_at 9 [] None
+        (node 10 (CellGet (local 11 1))) ∷ []
     )
     (one (let_one 1 0 (letter 2 65) (let_one 3 1 (node 4 (NewCell (local 20 0))) (
     node 12 (Let (2 ∷ 3 ∷ []) (two (lambda 5 0) (lambda 9 1)) (sequence 13 (two
@@ -152,7 +153,8 @@ shared_cell =
 abbrev pub early_read : Ordered
 early_read =
     program 0 []
-    (one (let_one 1 0 (node 2 (Quote Const.Undefined)) (let_one 3 1 (node 4 (NewCell (local 5 0))) (node 6 (CellGet (local 7 1))))))
+    (one (let_one 1 0 (node 2 (Quote Const.Undefined))
+        (let_one 3 1 (node 4 (NewCell (local 5 0))) (node 6 (CellGet (local 7 1))))))
     (line 1 (0 ∷ []) ∷ [])
 
 -- (let ((y #\A)) (f #\B)), where f is the lambda expression (lambda (a) (begin (write-char y) (write-char a)))
@@ -233,7 +235,8 @@ anf procs = record { globals = []; statics = []; order = []; procs = procs }
 abbrev pub mutual_closures : AnfTree
 mutual_closures =
     anf (
-    form_proc (A.Bind 0 (A.Atom (char 66)) (A.CloseAll (1 ∷ 2 ∷ []) (0 ∷ 1 ∷ []) (A.Tail (A.Call (var 1) [] (spot 3))))) ∷
+    form_proc (A.Bind 0 (A.Atom (char 66))
+        (A.CloseAll (1 ∷ 2 ∷ []) (0 ∷ 1 ∷ []) (A.Tail (A.Call (var 1) [] (spot 3))))) ∷
     proc_at 0 [] (2 ∷ []) (A.Tail (A.Call (var 2) [] (spot 4))) ∷
     proc_at 1 [] (0 ∷ 1 ∷ []) (A.Tail (A.Branch (A.Quote (Const.Bool true))
     (A.Tail (A.PrimUse Primitive.WriteChar (var 0 ∷ []) (spot 5)))
@@ -269,6 +272,7 @@ anf_loop = record {
       form_proc (A.Bind 1 (A.Global 0 (spot 1)) (A.Tail (A.Call (var 1) (A.Quote (Const.Fix (pos 2)) ∷ []) (spot 2)))) ∷
       proc_at 0 (2 ∷ []) [] (A.Bind 3 (A.PrimUse Primitive.NumEq (var 2 ∷ A.Quote (Const.Fix (pos 0)) ∷ []) (spot 3)) (
       A.Tail (A.Branch (var 3) (A.Tail (A.Atom (A.Quote (Const.Fix (pos 0))))) (
-      A.Bind 4 (A.Global 0 (spot 4)) (A.Bind 5 (A.PrimUse Primitive.Sub (var 2 ∷ A.Quote (Const.Fix (pos 1)) ∷ []) (spot 5)) (
+      A.Bind 4 (A.Global 0 (spot 4))
+          (A.Bind 5 (A.PrimUse Primitive.Sub (var 2 ∷ A.Quote (Const.Fix (pos 1)) ∷ []) (spot 5)) (
       A.Tail (A.Call (var 4) (var 5 ∷ []) (spot 6)))))))) ∷ [];
 }

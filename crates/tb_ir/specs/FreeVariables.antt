@@ -53,7 +53,8 @@ lambda_free inner added l = without (parameters l ++ added) (free inner l.body)
 abbrev pub lambdas_free : List Lifted → List LambdaTree → ℕ → ℕ → List ℕ
 lambdas_free set [] first l = []
 lambdas_free set (m ∷ ms) first l =
-    cond (first == l) (lambda_free (lambdas_free set ms (suc first)) (added_to set l) m) (lambdas_free set ms (suc first) l)
+    cond (first == l) (lambda_free (lambdas_free set ms (suc first)) (added_to set l) m)
+        (lambdas_free set ms (suc first) l)
 
 -- the free variables of the lambda expressions of a program
 abbrev pub inner_free : ProgramTree → ℕ → List ℕ

@@ -155,7 +155,8 @@ give_value c (Some v) es = go c (Val v) c.frames es
 
 -- a procedure is made, with the variables that it captures
 abbrev pub make_closure : {C W : Type 0} → Config C W → ℕ → List ℕ → Env → List Event → State C W
-make_closure c l captured r es = go_with c (Val (At (length c.store))) c.frames (c.store ++ Clo l (gather captured r) ∷ []) es
+make_closure c l captured r es = go_with c (Val (At (length c.store))) c.frames
+    (c.store ++ Clo l (gather captured r) ∷ []) es
 
 -- procedures in whose environment all of them are bound
 abbrev pub closures : (ℕ → List ℕ) → List ℕ → Env → List Item
@@ -163,7 +164,8 @@ closures captured [] r = []
 closures captured (l ∷ ls) r = Clo l (gather (captured l) r) ∷ closures captured ls r
 
 -- procedures that name one another, and what comes after them, whose environment is not cut for one step
-abbrev pub make_closures : {C W : Type 0} → (ℕ → List ℕ) → Config C W → List ℕ → List ℕ → C → Env → List Event → State C W
+abbrev pub make_closures : {C W : Type 0} → (ℕ → List ℕ) → Config C W → List ℕ → List ℕ → C → Env → List Event →
+    State C W
 make_closures captured c xs ls e r es =
     let q = bind_located xs (length c.store) r in
     go_with c (Bound e q) c.frames (c.store ++ closures captured ls q) es
@@ -190,7 +192,8 @@ set_cell c (At l) v fs es = set_held c l (slice_get c.store l) v fs es
 set_cell c _ v fs es = Lost c es
 
 -- a call enters the procedure: the frame on top is marked
-abbrev pub enter_at : {C W : Type 0} → Config C W → Place → ℕ → Option Item → List Value → List (Frame W) → List Event → State C W
+abbrev pub enter_at : {C W : Type 0} → Config C W → Place → ℕ → Option Item → List Value → List (Frame W) →
+    List Event → State C W
 enter_at c p l (Some (Clo m r)) vs fs es = go c (Entering (Closure l) vs) (mark_top fs) (emit es (Event.Enter m))
 enter_at c p l _ vs fs es = fail c Cause.NotProcedure p es
 
@@ -208,7 +211,8 @@ apply_to c p l m (Elements vs) fs es = go c (Entering (Closure l) vs) (mark_top 
 apply_to c p l m TooLong fs es = fail c Cause.TooMany p es
 apply_to c p l m NoList fs es = fail c Cause.WrongType p es
 
-abbrev pub apply_at : {C W : Type 0} → Config C W → Place → ℕ → Option Item → Value → List (Frame W) → List Event → State C W
+abbrev pub apply_at : {C W : Type 0} → Config C W → Place → ℕ → Option Item → Value → List (Frame W) → List Event →
+    State C W
 apply_at c p l (Some (Clo m r)) v fs es = apply_to c p l m (walked (contents c.store) 12 v) fs es
 apply_at c p l _ v fs es = fail c Cause.NotProcedure p es
 
@@ -238,14 +242,16 @@ perform c p Peeks fs es = peek_input c c.met_end c.input fs es
 perform c p (Fails cause) fs es = fail c cause p es
 perform c p Misused fs es = Lost c es
 
-abbrev pub use_primitive : {C W : Type 0} → Config C W → Place → Primitive → List Value → List (Frame W) → List Event → State C W
+abbrev pub use_primitive : {C W : Type 0} → Config C W → Place → Primitive → List Value → List (Frame W) →
+    List Event → State C W
 use_primitive c p q vs fs es = perform c p (effect_of (contents c.store) q vs) fs es
 
 -- the assignment of a global; `set!` fails where the global has no value yet, a definition never
 abbrev pub assign_global : {C W : Type 0} → Config C W → ℕ → Value → List (Frame W) → List Event → State C W
 assign_global c g v fs es = go (record c { globals = slice_set c.globals g v }) (Val Unspecified) fs es
 
-abbrev pub set_held_global : {C W : Type 0} → Config C W → ℕ → Place → Value → Option Value → List (Frame W) → List Event → State C W
+abbrev pub set_held_global : {C W : Type 0} → Config C W → ℕ → Place → Value → Option Value → List (Frame W) →
+    List Event → State C W
 set_held_global c g p v None fs es = Lost c es
 set_held_global c g p v (Some Undefined) fs es = fail c Cause.Undefined p es
 set_held_global c g p v (Some w) fs es = assign_global c g v fs es
@@ -263,7 +269,8 @@ takes formals None n = formals == n
 takes formals (Some y) n = nat_le formals n
 
 -- the body is evaluated with the parameters, and the list of the rest parameter
-abbrev pub bind_parameters : {C W : Type 0} → Language C W → Config C W → Procedure C → Option ℕ → List Value → Env → List Event → State C W
+abbrev pub bind_parameters : {C W : Type 0} → Language C W → Config C W → Procedure C → Option ℕ → List Value → Env →
+    List Event → State C W
 bind_parameters x c q None vs r es = go c (eval x q.body (bind_all q.formals vs r)) c.frames es
 bind_parameters x c q (Some y) vs r es =
     let k = length q.formals in
@@ -271,16 +278,20 @@ bind_parameters x c q (Some y) vs r es =
     go_with c (eval x q.body (bind_all (q.formals ++ y ∷ []) ws r)) c.frames
     (c.store ++ map Obj (list_objects (drop k vs) (length c.store))) es
 
-abbrev pub enter_body : {C W : Type 0} → Language C W → Config C W → Option (Procedure C) → List Value → Env → List Event → State C W
+abbrev pub enter_body : {C W : Type 0} → Language C W → Config C W → Option (Procedure C) → List Value → Env →
+    List Event → State C W
 enter_body x c None vs r es = Lost c es
 enter_body x c (Some q) vs r es =
-    cond (takes (length q.formals) q.rest (length vs)) (bind_parameters x c q q.rest vs r es) (fail c Cause.WrongArgs q.place es)
+    cond (takes (length q.formals) q.rest (length vs)) (bind_parameters x c q q.rest vs r es)
+        (fail c Cause.WrongArgs q.place es)
 
 -- the body of a lambda expression that is lifted runs with its parameters and the variables added to them
-abbrev pub enter_lifted_body : {C W : Type 0} → Language C W → Config C W → Option (Procedure C) → List Value → List Event → State C W
+abbrev pub enter_lifted_body : {C W : Type 0} → Language C W → Config C W → Option (Procedure C) → List Value →
+    List Event → State C W
 enter_lifted_body x c None vs es = Lost c es
 enter_lifted_body x c (Some q) vs es =
-    cond (length (q.formals ++ q.added) == length vs) (go c (eval x q.body (bind_all (q.formals ++ q.added) vs Empty)) c.frames es)
+    cond (length (q.formals ++ q.added) == length vs)
+        (go c (eval x q.body (bind_all (q.formals ++ q.added) vs Empty)) c.frames es)
     (fail c Cause.WrongArgs q.place es)
 
 abbrev pub enter_item : {C W : Type 0} → Language C W → Config C W → Option Item → List Value → List Event → State C W
@@ -346,6 +357,7 @@ start_of globals statics input = record {
 }
 
 -- the machine of a program in a language, with these globals and static objects, and the input
-abbrev pub machine_of : {C W : Type 0} → Language C W → List GlobalName → List Static → List ℕ → Machine Event (State C W)
+abbrev pub machine_of : {C W : Type 0} → Language C W → List GlobalName → List Static → List ℕ →
+    Machine Event (State C W)
 machine_of x globals statics input =
     record { start = Running (start_of globals statics input) []; step = step x; events = events_of }

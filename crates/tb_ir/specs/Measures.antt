@@ -17,7 +17,8 @@ abbrev pub shape_of : {C W : Type 0} → Language C W → ℕ → State C W → 
 shape_of x statics s = record { frames = frames_of s; closures = closures_of x statics s; words = words_of x statics s }
 
 -- the machine has no memory that fills
-abbrev pub measured_of : {C W : Type 0} → Language C W → List GlobalName → List Static → List ℕ → Measured Event (State C W)
+abbrev pub measured_of : {C W : Type 0} → Language C W → List GlobalName → List Static → List ℕ →
+    Measured Event (State C W)
 measured_of x globals statics input = record {
   machine = machine_of x globals statics input;
   shape = shape_of x (length statics);

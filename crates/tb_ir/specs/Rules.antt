@@ -62,7 +62,8 @@ of_nodes has (e ∷ es) = has (form_of e) ++ of_nodes has es
 abbrev pub of_kind : Bool → List ℕ → Trees → List ℕ
 of_kind cells [] es = []
 of_kind cells (x ∷ xs) none = []
-of_kind cells (x ∷ xs) (more e es) = cond (is_new_cell e) (cond cells (x ∷ []) []) (cond cells [] (x ∷ [])) ++ of_kind cells xs es
+of_kind cells (x ∷ xs) (more e es) = cond (is_new_cell e) (cond cells (x ∷ []) [])
+    (cond cells [] (x ∷ [])) ++ of_kind cells xs es
 
 -- the variables that a node binds, those that it binds to a new cell, and those that it binds otherwise
 abbrev pub binders : Form → List ℕ
@@ -276,8 +277,10 @@ HasPermutation (Some line) n = IsPermutation line n
 
 -- a `let` may have no line; a direct call has the line of the call that it was, its operator counted
 abbrev pub HasLine : List Line → List Lifted → List LambdaTree → Tree → Type 0
-HasLine order set lambdas (Node p s (Let xs es e)) = (line : List ℕ) → line_of order s ≡ Some line → IsPermutation line (count es)
-HasLine order set lambdas (Node p s (Direct l es)) = (m : LambdaTree) → slice_get lambdas l ≡ Some m → HasPermutation (line_of order s) (suc (length m.formals))
+HasLine order set lambdas (Node p s (Let xs es e)) = (line : List ℕ) → line_of order s ≡ Some line →
+    IsPermutation line (count es)
+HasLine order set lambdas (Node p s (Direct l es)) = (m : LambdaTree) → slice_get lambdas l ≡ Some m →
+    HasPermutation (line_of order s) (suc (length m.formals))
 HasLine order set lambdas (Node p s f) = has_order f ≡ true → HasPermutation (line_of order s) (count (operands f))
 
 -- an order for a program: each node that has one goes by a line with the numbers of its operands

@@ -66,7 +66,8 @@ abbrev pub store_graph : {C W : Type 0} → (W → List Value) → ℕ → Confi
 store_graph values statics c = record {
   count = length c.store;
   next = λ l. locations_of (slice_get c.store l);
-  roots = below statics ++ (control_locations c.control ++ (frames_locations values c.frames ++ values_locations c.globals));
+  roots = below statics ++
+      (control_locations c.control ++ (frames_locations values c.frames ++ values_locations c.globals));
 }
 
 -- a measure of the items, summed over those that are static or can be reached

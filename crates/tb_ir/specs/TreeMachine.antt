@@ -104,13 +104,15 @@ complete x c p _ vs r fs es = Lost c es
 
 -- the next operand: its environment is cut to it, and that of the frame to the operands after it, and for a
 -- `let` to the body also
-abbrev pub operand : Context → TreeConfig → Place → ℕ → Form → List Value → Env → List ℕ → Option Tree → Frames → List Event → TreeState
+abbrev pub operand : Context → TreeConfig → Place → ℕ → Form → List Value → Env → List ℕ → Option Tree → Frames →
+    List Event → TreeState
 operand x c p s f vs r ns None fs es = Lost c es
 operand x c p s f vs r ns (Some e) fs es =
     evaluate_cut x c e r (push (Args p s f vs (gather (free_of_numbers x (operands f) ns ++ free_of_body x f) r)) fs) es
 
 -- a node with some of its operands evaluated goes on with those that are left
-abbrev pub operands_left : Context → TreeConfig → Place → ℕ → Form → List Value → Env → List ℕ → List ℕ → Frames → List Event → TreeState
+abbrev pub operands_left : Context → TreeConfig → Place → ℕ → Form → List Value → Env → List ℕ → List ℕ → Frames →
+    List Event → TreeState
 operands_left x c p s f vs r all [] fs es = complete x c p f (arranged 0 (length all) all vs) r fs es
 operands_left x c p s f vs r all (n ∷ ns) fs es = operand x c p s f vs r ns (tree_at (operands f) n) fs es
 
