@@ -5,6 +5,7 @@
 mod answer;
 mod arithmetic;
 mod calls;
+mod layout;
 mod machine;
 mod objects;
 mod perform;
