@@ -3,9 +3,9 @@
 ghost use Rattle.std.specs.Prelude.{◌≡◌, ◌+◌, ◌<◌, ◌≤◌, ◌^◌, length, map, IfOk};
 ghost use Rattle.tb_mac.specs.Layout.{static_size, statics_size, addresses_from, static_tag, const_word, static_words, all_words, static_pointer};
 ghost use Rattle.tb_mac.specs.MacStep.{put_words};
-ghost use Rattle.tb_mac.specs.Objects.{padded_size, raw_words, bytes_words};
+ghost use Rattle.tb_mac.specs.Objects.{padded_size, raw_words, bytes_words, vector_words};
 ghost use Rattle.tb_mac.specs.Objects.{raw_size};
-ghost use Rattle.tb_macm.specs.calls.Loads.{byte_at};
+ghost use Rattle.tb_macm.specs.calls.Loads.{byte_at, laid_out};
 
 use super::objects::fill;
 use std::alloc::Global;
@@ -128,4 +128,72 @@ fn put_raw(memory: &mut [Word], at: usize, bytes: &[u8])
             byte_at(bytes, 4 * k + 3),
         ]);
     }
+}
+
+/// Writes a vector of constants from `at` on.
+#[tactic(auto, using(crate::proofs::Layouts::put_vector_words))]
+fn put_vector(memory: &mut [Word], at: usize, statics: &[Static], addresses: &[u32], constants: &[Const])
+    requires room { at + padded_size (length constants.now + 1) ≤ length memory.old }
+    requires small { length memory.old < 2 ^ 32 }
+    ensures { memory.new ≡ put_words at (vector_words (map (const_word statics.now addresses.now) constants.now)) memory.old }
+{
+    let count = constants.len();
+    memory[at] = Word::Header(18, count as u32);
+    put_consts(memory, at + 1, statics, addresses, constants);
+    fill(memory, at + 1 + count, (count + 1) % 2, Word::Fix(0));
+}
+
+/// Writes a string or symbol from `at` on, by its kind.
+#[tactic(auto, using(crate::proofs::Layouts::put_bytes_words))]
+fn put_bytes(memory: &mut [Word], at: usize, kind: u8, bytes: &[u8])
+    requires room { at + padded_size (raw_size (length bytes.now) + 1) ≤ length memory.old }
+    requires small { length memory.old < 2 ^ 30 }
+    ensures { memory.new ≡ put_words at (bytes_words kind bytes.now) memory.old }
+{
+    let raw = (bytes.len() + 3) / 4;
+    memory[at] = Word::Header(kind, bytes.len() as u32);
+    put_raw(memory, at + 1, bytes);
+    fill(memory, at + 1 + raw, (raw + 1) % 2, Word::Fix(0));
+}
+
+/// Writes a static object from `at` on.
+fn put_static(memory: &mut [Word], at: usize, statics: &[Static], addresses: &[u32], object: &Static)
+    requires room { at + static_size object.now ≤ length memory.old }
+    requires small { length memory.old < 2 ^ 30 }
+    ensures { memory.new ≡ put_words at (static_words statics.now addresses.now object.now) memory.old }
+{
+    match object {
+        Static::Pair(a, b) => {
+            memory[at] = const_word(statics, addresses, *a);
+            memory[at + 1] = const_word(statics, addresses, *b);
+        }
+        Static::Vector(elements) => put_vector(memory, at, statics, addresses, elements.as_slice()),
+        Static::Str(bytes) => put_bytes(memory, at, 34, bytes.as_slice()),
+        Static::Sym(bytes) => put_bytes(memory, at, 42, bytes.as_slice()),
+    }
+}
+
+/// Writes the static objects from `at` on.
+fn put_statics(memory: &mut [Word], at: usize, statics: &[Static], addresses: &[u32])
+    requires room { at + statics_size statics.now ≤ length memory.old }
+    requires small { length memory.old < 2 ^ 30 }
+    ensures { memory.new ≡ put_words at (all_words statics.now addresses.now statics.now) memory.old }
+{
+    let mut next = at;
+    for object in statics {
+        put_static(memory, next, statics, addresses, object);
+        next += static_size(object) as usize;
+    }
+}
+
+/// Writes so many globals, and the static objects behind them.
+#[tactic(auto, using(crate::proofs::Layouts::put_start_words))]
+pub fn lay_out(memory: &mut [Word], globals: usize, statics: &[Static], addresses: &[u32])
+    requires room { padded_size globals + statics_size statics.now ≤ length memory.old }
+    requires small { length memory.old < 2 ^ 30 }
+    ensures { memory.new ≡ put_words 0 (laid_out globals statics.now addresses.now) memory.old }
+{
+    fill(memory, 0, globals, Word::Special(4));
+    fill(memory, globals, globals % 2, Word::Fix(0));
+    put_statics(memory, globals + globals % 2, statics, addresses);
 }

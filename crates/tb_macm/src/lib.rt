@@ -6,6 +6,7 @@ mod answer;
 mod arithmetic;
 mod calls;
 mod layout;
+mod load;
 mod machine;
 mod objects;
 mod perform;
@@ -14,5 +15,6 @@ mod primitives;
 mod state;
 mod step;
 
+pub use load::LoadRefusal;
 pub use machine::MacMachine;
 pub use step::Step;
