@@ -9,3 +9,4 @@ pub mod MacEvents
 pub mod Bounds
 pub mod Examples
 pub mod CodeOf
+pub mod calls

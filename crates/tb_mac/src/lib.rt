@@ -4,6 +4,8 @@
 mod code;
 pub mod examples;
 
+mod bounds;
+mod fields;
 mod immediate;
 mod lookup;
 mod numbers;
@@ -14,6 +16,8 @@ pub use code::{
     OrderRow, Parts, PlaceEntry, PlaceRow,
 };
 pub use lookup::{fetch, place_of};
+pub use bounds::{frame_bound, space_bound, window_bound};
+pub use fields::instr_ok;
 pub use immediate::{immediate_bits, immediate_word};
 pub use numbers::primitive_at;
 pub use word::{Placed, Word, is_false, same_word};
