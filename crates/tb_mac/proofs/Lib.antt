@@ -1,2 +1,5 @@
 pub mod RuleLaws
 pub mod BoundLaws
+pub mod FrameLaws
+pub mod EventLaws
+pub mod Immediates

@@ -7,6 +7,7 @@ pub mod examples;
 mod bounds;
 mod fields;
 mod immediate;
+pub mod laws;
 mod lookup;
 mod numbers;
 mod word;
