@@ -24,7 +24,7 @@ use Rattle.tb_core.specs.Reference.{Control, Eval, Bound, Val, Entering, Work, S
 use Rattle.tb_core.proofs.Members.{in-left, in-right, in-either, in-without}
 use Rattle.tb_core.proofs.Numbers.{free-of-lambda, forms-have-lines, bodies-have-lines}
 use Rattle.tb_core.proofs.Lines.{line-within, line-all, line-length, tree-within, arranged-length}
-use Rattle.tb_core.proofs.Fits.{Fit, gives, makes, changes, puts, takes as takes_input, peeks, fails, fits}
+use Rattle.tb_core.proofs.Fits.{Fit, gives, makes, changes, puts, takes as takes_input, peeks, fails, misused, fits}
 use Rattle.tb_core.proofs.Stores
 use Rattle.tb_core.proofs.Stores.{VarAt, Found, Covers, Extends, covers-cut, covers-own, extends_refl, extends-append, extends-set, get-right, covers-bound, vars-at, vars-no-closure, located-at, located-no-closure, pairs-no-closure, SameKind, var_kind, obj_kind, content-object}
 use Rattle.tb_core.proofs.Kept.{NodeOk, both, both_all, each-at, operand-each, let_free, let-free-body, free-at, covers-operands, own_context, CloOk, StoreOk, ControlOk, ArgsOk, WorkOk, FramesOk, IsAbove, EndsTop, Base, After, store-append, store-set, go-ok, go-with-ok, base-push, base-mark}
@@ -145,20 +145,21 @@ module _ (p : ProgramTree) (rules : KeepsRules p) where
   one_object m r o (inl e) = cc
   one_object m r o (inr j) = absurd j
 
-  perform : (c : Config) (q : Place) (f : Effect) (fs : List Frame) (es : List Event) → Base p c fs → Fit (contents c.store) f → After p (made c.store) (Reference.perform c q f fs es)
-  perform c q _ fs es b gives = go-ok p c _ fs es b tt
-  perform c q _ fs es b (makes {o = o}) =
+  perform : (c : Config) (q : Place) (f : Effect) (fs : List Frame) {right : Type 0} (es : List Event) → right → Base p c fs → Fit (contents c.store) right f → After p (made c.store) (Reference.perform c q f fs es)
+  perform c q _ fs es ok b gives = go-ok p c _ fs es b tt
+  perform c q _ fs es ok b (makes {o = o}) =
       go-with-ok p c _ fs _ es b (extends-append c.store (Obj o ∷ []))
       (store-append p c.store (Obj o ∷ []) b.store (λ m r j. absurd (one_object m r o j))) tt
-  perform c q _ fs es b (changes {l = l} {o = o} old e k) =
+  perform c q _ fs es ok b (changes {l = l} {o = o} old e k) =
       let here = content-object (slice_get c.store l) old e in
       let kind = obj_kind old o k in
       go-with-ok p c _ fs _ es b (extends-set c.store l (Obj old) (Obj o) here kind)
       (store-set p c.store l (Obj old) (Obj o) here kind b.store) tt
-  perform c q _ fs es b puts = go-ok p c _ fs es b tt
-  perform c q _ fs es b takes_input = take_input c _ _ fs es b
-  perform c q _ fs es b peeks = peek_input c _ _ fs es b
-  perform c q _ fs es b fails = omega arith
+  perform c q _ fs es ok b puts = go-ok p c _ fs es b tt
+  perform c q _ fs es ok b takes_input = take_input c _ _ fs es b
+  perform c q _ fs es ok b peeks = peek_input c _ _ fs es b
+  perform c q _ fs es ok b fails = omega arith
+  perform c q _ fs es ok b (misused wrong) = absurd (wrong ok)
 
   -- the variables of a `let` are made, and its body is evaluated
   let_body : (c : Config) (xs : List ℕ) (e : Tree) (vs : List Value) (r : Env) (fs : List Frame) (es : List Event) → Base p c fs → Each (NodeOk p) e → length xs ≡ length vs → Covers c.store (without xs (free I e)) r → After p (made c.store) (Reference.go_with c (Reference.eval (own_context p) e (bind_from xs (length c.store) r)) fs (c.store ++ vars vs) es)
@@ -176,7 +177,7 @@ module _ (p : ProgramTree) (rules : KeepsRules p) where
   complete c q s (Apply f g) (v ∷ []) r fs es b o k n l h = absurd (omega arith)
   complete c q s (Apply f g) (v ∷ w ∷ []) r fs es b o k n l h = apply c q v w fs es b
   complete c q s (Apply f g) (v ∷ w ∷ u ∷ vs) r fs es b o k n l h = absurd (omega arith)
-  complete c q s (PrimUse pr ds) vs r fs es b o k n l h = perform c q _ fs es b (fits (contents c.store) pr vs (l ∙ k.shaped))
+  complete c q s (PrimUse pr ds) vs r fs es b o k n l h = perform c q _ fs es (l ∙ k.shaped) b (fits (contents c.store) pr vs)
   complete c q s (Let xs ds e) vs r fs es b o k n l h = let_body c xs e vs r fs es b n.1 (k.shaped ∙ sym l) h
   complete c q s _ vs r fs es b o k n l h = cc
 

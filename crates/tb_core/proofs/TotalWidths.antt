@@ -1,11 +1,11 @@
 -- The widths among the measures of a program are those of its bodies and forms, and the totals of measures
 -- without an offence are those of their widths.
-use Rattle.std.proofs.Common.{◌≡◌, refl, sym, ap, ◌∙◌, ℕ, suc, ◌+◌, ◌*◌, max, Bool, true, false, cond, ◌==◌, List, [], ◌∷◌, ◌++◌, length, Ok, Err, arith}
+use Rattle.std.proofs.Common.{◌≡◌, refl, sym, ap, ◌∙◌, ℕ, suc, ◌+◌, ◌*◌, max, Bool, true, false, cond, ◌==◌, List, [], ◌∷◌, ◌++◌, length, Option, None, Some, slice_get, Ok, Err, arith}
 use Rattle.tb_core.specs.declared.limits.CoreRefusal.{CoreRefusal}
 use Rattle.tb_core.specs.declared.limits.Totals.{Totals}
 use Rattle.tb_core.specs.Tree.{Tree, Node, Form, Quote, Local, Global, Lambda, If, SetLocal, SetGlobal, DefGlobal, Let, Letrec, Seq, Call, PrimUse, Apply, Trees, none, more, LambdaTree, ProgramTree, parameters}
 use Rattle.tb_core.specs.Width.{nodes, widths, widths_form, widths_all, widths_of_lambdas, lambdas_widths, form_widths, all_widths, largest, squares, width_of, square_sum}
-use Rattle.tb_core.specs.Limits.{Measure, Operands, Depth, Width, measures, measures_form, measures_all, measures_of_lambdas, lambdas_measures, call_measures, form_measures, forms_measures, program_measures, judged, judge, no_widths, judge_program}
+use Rattle.tb_core.specs.Limits.{Measure, Operands, Depth, Width, measures, measures_form, measures_all, measures_of_lambdas, lambdas_measures, parameter_measures, first_measures, form_measures, forms_measures, program_measures, judged, judge, no_widths, judge_program}
 use Rattle.tb_core.proofs.Judging.{judge_offence}
 
 -- the widths among some measures
@@ -53,29 +53,25 @@ module _ (f : ℕ → ℕ → ℕ → List Measure) (g : ℕ → ℕ → List �
     of_trees s d none = refl
     of_trees s d (more e es) = joined (measures f s d e) _ _ _ (of_tree s d e) (of_trees s d es)
 
-  of_call : (p : _) (k : Form) (ms : List Measure) → widths_in (call_measures p k ++ ms) ≡ widths_in ms
-  of_call p (Quote c) ms = refl
-  of_call p (Local x) ms = refl
-  of_call p (Global v) ms = refl
-  of_call p (Lambda l) ms = refl
-  of_call p (If a b c) ms = refl
-  of_call p (SetLocal x e) ms = refl
-  of_call p (SetGlobal x e) ms = refl
-  of_call p (DefGlobal x e) ms = refl
-  of_call p (Let xs es e) ms = refl
-  of_call p (Letrec xs ls e) ms = refl
-  of_call p (Seq es) ms = refl
-  of_call p (Call a es) ms = refl
-  of_call p (PrimUse q es) ms = refl
-  of_call p (Apply a b) ms = refl
+of_parameters : (l : Option LambdaTree) (ms : List Measure) → widths_in (parameter_measures l ++ ms) ≡ widths_in ms
+of_parameters None ms = refl
+of_parameters (Some l) ms = refl
 
-  of_forms : (es : Trees) → widths_in (forms_measures f es) ≡ form_widths g es
-  of_forms none = refl
-  of_forms (more (Node p n k) es) =
-      in_append (form_measures f (Node p n k)) (forms_measures f es)
-      ∙ ap (λ w. w ++ widths_in (forms_measures f es)) (of_call p k (Width p (nodes (Node p n k)) ∷ measures f 0 1 (Node p n k)))
-      ∙ ap (λ w. nodes (Node p n k) ∷ (w ++ widths_in (forms_measures f es))) (of_tree 0 1 (Node p n k))
-      ∙ ap (λ w. nodes (Node p n k) ∷ (widths g 0 (Node p n k) ++ w)) (of_forms es)
+of_first : (ls : List LambdaTree) (p : _) (k : Form) (ms : List Measure) → widths_in (first_measures ls p k ++ ms) ≡ widths_in ms
+of_first ls p (Quote c) ms = refl
+of_first ls p (Local x) ms = refl
+of_first ls p (Global v) ms = refl
+of_first ls p (Lambda l) ms = of_parameters (slice_get ls l) ms
+of_first ls p (If a b c) ms = refl
+of_first ls p (SetLocal x e) ms = refl
+of_first ls p (SetGlobal x e) ms = refl
+of_first ls p (DefGlobal x e) ms = refl
+of_first ls p (Let xs es e) ms = refl
+of_first ls p (Letrec xs ns e) ms = refl
+of_first ls p (Seq es) ms = refl
+of_first ls p (Call a es) ms = refl
+of_first ls p (PrimUse q es) ms = refl
+of_first ls p (Apply a b) ms = refl
 
 either : (b : Bool) (ms ns : List Measure) (v w : List ℕ) → widths_in ms ≡ v → widths_in ns ≡ w → widths_in (cond b ms ns) ≡ cond b v w
 either true ms ns v w p q = p
@@ -88,9 +84,17 @@ of_lambda (m ∷ ms) first l s d =
     (ap (λ w. (s + length (parameters m) + nodes m.body) ∷ w) (of_tree (lambdas_measures ms (suc first)) (lambdas_widths ms (suc first)) (of_lambda ms (suc first)) (s + length (parameters m)) (d + 1) m.body))
     (of_lambda ms (suc first) l s d)
 
+of_forms : (ls : List LambdaTree) (es : Trees) → widths_in (forms_measures ls es) ≡ form_widths (lambdas_widths ls 0) es
+of_forms ls none = refl
+of_forms ls (more (Node p n k) es) =
+    in_append (form_measures ls (Node p n k)) (forms_measures ls es)
+    ∙ ap (λ w. w ++ widths_in (forms_measures ls es)) (of_first ls p k (Width p (nodes (Node p n k)) ∷ measures (lambdas_measures ls 0) 0 1 (Node p n k)))
+    ∙ ap (λ w. nodes (Node p n k) ∷ (w ++ widths_in (forms_measures ls es))) (of_tree (lambdas_measures ls 0) (lambdas_widths ls 0) (of_lambda ls 0) 0 1 (Node p n k))
+    ∙ ap (λ w. nodes (Node p n k) ∷ (widths (lambdas_widths ls 0) 0 (Node p n k) ++ w)) (of_forms ls es)
+
 -- the widths among the measures of a program
 pub widths_of_program : (p : ProgramTree) → widths_in (program_measures p) ≡ all_widths p
-widths_of_program p = of_forms (lambdas_measures p.lambdas 0) (lambdas_widths p.lambdas 0) (of_lambda p.lambdas 0) p.forms
+widths_of_program p = of_forms p.lambdas p.forms
 
 -- the totals after some widths
 pub record Adds (t : Totals) (ws : List ℕ) (u : Totals) : Type 0 where

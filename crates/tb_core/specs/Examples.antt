@@ -10,7 +10,8 @@ use Rattle.tb_prim.specs.declared.primitive.Primitive.{Primitive}
 use Rattle.tb_semantics.specs.Runs.{after}
 use Rattle.tb_core.specs.Tree.{Tree, Node, Form, Quote, Local, Global, Lambda, If, SetLocal, SetGlobal, DefGlobal, Let, Letrec, Seq, Call, PrimUse, Apply, Trees, none, more, LambdaTree, ProgramTree}
 use Rattle.tb_core.specs.OperandOrder.{order_of}
-use Rattle.tb_core.specs.Store.{Item}
+use Rattle.tb_core.specs.declared.limits.Totals.{Totals}
+use Rattle.tb_core.specs.Store.{Item, Obj, Fix, Nil, Pair, Vec, Str}
 use Rattle.tb_core.specs.Reference.{config_of, events_of, reference}
 
 -- after some steps in its own order, with this input, the program has emitted these events
@@ -220,3 +221,15 @@ applied_number = program 0 [] [] (one (node 1 (Apply (number 2 5) (number 3 6)))
 -- (apply (lambda (x) x) 6)
 abbrev pub applied_to_number : ProgramTree
 applied_to_number = program 0 [] (lambda_at 2 (0 ∷ []) None (local 3 0) ∷ []) (one (node 1 (Apply (lambda 2 0) (number 4 6))))
+
+-- a vector of two numbers, a string of one character, and a pair of two empty lists
+abbrev pub three_objects : List Item
+three_objects =
+    Obj (Vec (Fix (pos 1) ∷ Fix (pos 2) ∷ [])) ∷ Obj (Str (65 ∷ [])) ∷ Obj (Pair Nil Nil) ∷ []
+
+-- a lambda expression of thirteen parameters, and widths that leave no room for a further form
+abbrev pub thirteen : LambdaTree
+thirteen = lambda_at 2 (0 ∷ 1 ∷ 2 ∷ 3 ∷ 4 ∷ 5 ∷ 6 ∷ 7 ∷ 8 ∷ 9 ∷ 10 ∷ 11 ∷ 12 ∷ []) None (number 3 1)
+
+abbrev pub no_room : Totals
+no_room = record { widest = 1; squares = 1048576 }

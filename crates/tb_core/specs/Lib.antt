@@ -10,6 +10,7 @@ pub mod Partners
 pub mod Reference
 pub mod Events
 pub mod Space
+pub mod Measures
 pub mod Width
 pub mod Limits
 pub mod FirstUses

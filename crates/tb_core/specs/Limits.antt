@@ -1,5 +1,5 @@
 -- The limits of the core language, and the first offence against them in written order (this project's own).
-use Rattle.std.specs.Prelude.{ℕ, suc, ◌+◌, ◌*◌, ◌≤◌, max, nat_lt, ◌||◌, cond, ◌==◌, List, [], ◌∷◌, ◌++◌, length, Result, Ok, Err}
+use Rattle.std.specs.Prelude.{ℕ, suc, ◌+◌, ◌*◌, ◌≤◌, max, nat_lt, ◌||◌, cond, ◌==◌, List, [], ◌∷◌, ◌++◌, length, slice_get, Option, Some, None, Result, Ok, Err}
 use Rattle.tb_prim.specs.declared.place.Place.{Place}
 use Rattle.tb_core.specs.declared.limits.CoreRefusal.{CoreRefusal}
 use Rattle.tb_core.specs.declared.limits.Totals.{Totals}
@@ -62,23 +62,29 @@ lambdas_measures [] first l scope depth = []
 lambdas_measures (m ∷ ms) first l scope depth =
     cond (first == l) (lambda_measures (lambdas_measures ms (suc first)) m scope depth) (lambdas_measures ms (suc first) l scope depth)
 
--- the operands of a form that is a call, which come before its width
-abbrev pub call_measures : Place → Form → List Measure
-call_measures p (Call f es) = Operands p (count es) ∷ []
-call_measures p _ = []
+-- the parameters of a lambda expression, if there is one
+abbrev pub parameter_measures : Option LambdaTree → List Measure
+parameter_measures None = []
+parameter_measures (Some l) = Operands l.place (length (parameters l)) ∷ []
 
--- the measures of a form: its operands, its width, and the measures of its nodes
-abbrev pub form_measures : (ℕ → ℕ → ℕ → List Measure) → Tree → List Measure
-form_measures inner (Node p s f) =
-    call_measures p f ++ (Width p (nodes (Node p s f)) ∷ measures inner 0 1 (Node p s f))
+-- what is judged of a form before its width: the operands of a call, and the parameters of a lambda expression
+abbrev pub first_measures : List LambdaTree → Place → Form → List Measure
+first_measures ls p (Call f es) = Operands p (count es) ∷ []
+first_measures ls p (Lambda l) = parameter_measures (slice_get ls l)
+first_measures ls p _ = []
 
-abbrev pub forms_measures : (ℕ → ℕ → ℕ → List Measure) → Trees → List Measure
-forms_measures inner none = []
-forms_measures inner (more e es) = form_measures inner e ++ forms_measures inner es
+-- the measures of a form: its operands or parameters, its width, and the measures of its nodes
+abbrev pub form_measures : List LambdaTree → Tree → List Measure
+form_measures ls (Node p s f) =
+    first_measures ls p f ++ (Width p (nodes (Node p s f)) ∷ measures (lambdas_measures ls 0) 0 1 (Node p s f))
+
+abbrev pub forms_measures : List LambdaTree → Trees → List Measure
+forms_measures ls none = []
+forms_measures ls (more e es) = form_measures ls e ++ forms_measures ls es
 
 -- all measures of a program in written order
 abbrev pub program_measures : ProgramTree → List Measure
-program_measures p = forms_measures (lambdas_measures p.lambdas 0) p.forms
+program_measures p = forms_measures p.lambdas p.forms
 
 -- a measure against its limit. A width counts also by its square, which is added to those before it: the answer
 -- is the totals of the widths so far, or the offence

@@ -1,16 +1,18 @@
-ghost use Rattle.std.specs.Prelude.{◌≡◌, List, [], ◌∷◌, map, pos, negsuc};
+ghost use Rattle.std.specs.Prelude.{◌≡◌, List, [], ◌∷◌, map, pos, negsuc, Err};
 ghost use Rattle.tb_prim.specs.declared.event.Cause.{Cause};
 ghost use Rattle.tb_prim.specs.declared.event.Event.{Event};
 ghost use Rattle.tb_prim.specs.declared.event.Taken.{Taken};
 ghost use Rattle.tb_prim.specs.declared.primitive.Primitive.{Primitive};
 ghost use Rattle.tb_semantics.specs.Runs.{after};
-ghost use Rattle.tb_core.specs.Effects.{Fails, Gives, effect_of};
-ghost use Rattle.tb_core.specs.Examples.{Emits, Stores, applied, applied_number, applied_to_number, assigned_capture, assigned_in_order, closure_of_one, complex_first, early_assignment, early_read, failure_after_output, letrec_closures, mixed_operands, no_procedure, reads, rest_parameter, spot, tail_loop, wrong_count};
+ghost use Rattle.tb_core.specs.Effects.{Changes, Fails, Gives, effect_of};
+ghost use Rattle.tb_core.specs.Examples.{Emits, Stores, applied, applied_number, applied_to_number, assigned_capture, assigned_in_order, closure_of_one, complex_first, early_assignment, early_read, failure_after_output, lambda, letrec_closures, mixed_operands, no_procedure, no_room, reads, rest_parameter, spot, tail_loop, thirteen, three_objects, wrong_count};
+ghost use Rattle.tb_core.specs.Limits.{form_measures, judge};
+ghost use Rattle.tb_core.specs.declared.limits.CoreRefusal.TheVariants.{TooManyArgs};
 ghost use Rattle.tb_core.specs.OperandOrder.{order_of};
 ghost use Rattle.tb_core.specs.Reference.{reference};
 ghost use Rattle.tb_core.specs.Space.{made_of, space_of};
 ghost use Rattle.tb_core.specs.Width.{all_widths, factor_bound, square_sum, width_of};
-ghost use Rattle.tb_core.specs.Store.{Bind, Clo, Empty, Fix, Nil, contents};
+ghost use Rattle.tb_core.specs.Store.{At, Bind, Char, Clo, Empty, Fix, Nil, Pair, contents};
 
 /// The events of small programs, as the definitions of the reference machine compute them.
 pub fn worked_programs()
@@ -81,4 +83,23 @@ pub fn worked_primitives()
     ensures modulo { effect_of (contents []) Primitive.Modulo (Fix (negsuc 6) ∷ Fix (pos 2) ∷ []) ≡ Gives (Fix (pos 1)) }
     ensures modulo_negative { effect_of (contents []) Primitive.Modulo (Fix (pos 7) ∷ Fix (negsuc 1) ∷ []) ≡ Gives (Fix (negsuc 0)) }
     ensures kind_before_zero { effect_of (contents []) Primitive.Quotient (Nil ∷ Fix (pos 0) ∷ []) ≡ Fails Cause.WrongType }
+{}
+
+/// The primitives on objects: an index at the end, past it and below it, kinds before ranges, and what is changed.
+pub fn worked_objects()
+    ensures last { effect_of (contents three_objects) Primitive.VectorRef (At 0 ∷ Fix (pos 1) ∷ []) ≡ Gives (Fix (pos 2)) }
+    ensures past { effect_of (contents three_objects) Primitive.VectorRef (At 0 ∷ Fix (pos 2) ∷ []) ≡ Fails Cause.Range }
+    ensures below { effect_of (contents three_objects) Primitive.VectorRef (At 0 ∷ Fix (negsuc 0) ∷ []) ≡ Fails Cause.Range }
+    ensures kind_of_index { effect_of (contents three_objects) Primitive.VectorRef (At 0 ∷ Char 9 ∷ []) ≡ Fails Cause.WrongType }
+    ensures kind_first { effect_of (contents three_objects) Primitive.VectorRef (At 1 ∷ Fix (pos 9) ∷ []) ≡ Fails Cause.WrongType }
+    ensures string { effect_of (contents three_objects) Primitive.StringRef (At 1 ∷ Fix (pos 0) ∷ []) ≡ Gives (Char 65) }
+    ensures set_car { effect_of (contents three_objects) Primitive.SetCar (At 2 ∷ Fix (pos 7) ∷ []) ≡ Changes 2 (Pair (Fix (pos 7)) Nil) }
+    ensures code { effect_of (contents []) Primitive.CharToInt (Char 255 ∷ []) ≡ Gives (Fix (pos 255)) }
+    ensures character { effect_of (contents []) Primitive.IntToChar (Fix (pos 255) ∷ []) ≡ Gives (Char 255) }
+    ensures no_character { effect_of (contents []) Primitive.IntToChar (Fix (pos 256) ∷ []) ≡ Fails Cause.Range }
+{}
+
+/// The parameters of a form that is a lambda expression are judged before the form's width.
+pub fn worked_limits()
+    ensures parameters_first { judge (Ok no_room) (form_measures (thirteen ∷ []) (lambda 2 0)) ≡ Err (TooManyArgs (spot 2)) }
 {}

@@ -1,4 +1,4 @@
-ghost use Rattle.std.specs.Prelude.{◌≡◌, ◌≤◌, ℕ, ◌+◌, ◌++◌, [], List, Option, Some, None, Bool, true, false, slice_get};
+ghost use Rattle.std.specs.Prelude.{◌≡◌, ◌≤◌, ℕ, ◌+◌, ◌++◌, [], List, Option, Some, None, Bool, true, false, IsTrue, slice_get};
 ghost use Rattle.tb_prim.specs.declared.event.Event.{Event};
 ghost use Rattle.tb_prim.specs.declared.primitive.Primitive.{Primitive};
 ghost use Rattle.tb_semantics.specs.Graph.{IsApart, ListsReachable, sum_of};
@@ -93,8 +93,15 @@ pub fn made_only_grows()
 
 /// A primitive does the same in two stores whose locations have partners, where what stands at partners is
 /// alike: with operands that are alike it gives values or makes or changes objects that are alike, puts the
-/// same character, takes or peeks at the input, or fails for the same cause. So does the walk of a list.
+/// same character, takes or peeks at the input, or fails for the same cause. So does the walk of a list. Where
+/// no object and no operand holds the mark of a variable without a value, none comes of it.
 pub fn primitives_in_partnered_stores()
-    ensures effects { (partner : ℕ → ℕ → Bool) (st now : ℕ → Content) → Partnered (pairs_of partner) st now → (p : Primitive) (vs ws : List Value) → AlikeLists (pairs_of partner) vs ws → AlikeEffects (pairs_of partner) (effect_of st p vs) (effect_of now p ws) }
-    ensures walks { (partner : ℕ → ℕ → Bool) (st now : ℕ → Content) → Partnered (pairs_of partner) st now → (n : ℕ) (v w : Value) → AlikeValues (pairs_of partner) v w → AlikeWalks (pairs_of partner) (walked st n v) (walked now n w) }
+    ensures effects { (partner : ℕ → ℕ → Bool) (marks : Bool) (st now : ℕ → Content) →
+        Partnered (pairs_of partner) (IsTrue marks) st now → (p : Primitive) (vs ws : List Value) →
+        AlikeLists (pairs_of partner) (IsTrue marks) vs ws →
+        AlikeEffects (pairs_of partner) (IsTrue marks) (effect_of st p vs) (effect_of now p ws) }
+    ensures walks { (partner : ℕ → ℕ → Bool) (marks : Bool) (st now : ℕ → Content) →
+        Partnered (pairs_of partner) (IsTrue marks) st now → (n : ℕ) (v w : Value) →
+        AlikeValues (pairs_of partner) (IsTrue marks) v w →
+        AlikeWalks (pairs_of partner) (IsTrue marks) (walked st n v) (walked now n w) }
 {}

@@ -13,8 +13,8 @@ mod rules;
 mod widths;
 
 pub use examples::{
-    worked_closures, worked_orders, worked_primitives, worked_programs, worked_spaces,
-    worked_widths,
+    worked_closures, worked_limits, worked_objects, worked_orders, worked_primitives,
+    worked_programs, worked_spaces, worked_widths,
 };
 pub use expr::{Core, Expr, ExprRow, LambdaId, LambdaIdRow, Site, VarId, VarRow};
 pub use free::free_vars;

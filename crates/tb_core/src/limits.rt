@@ -1,5 +1,5 @@
-ghost use Rattle.std.specs.Prelude.{◌≡◌, ◌+◌, ◌≤◌, ◌<◌, ◌*◌, ◌^◌, length, map, drop, Ok, Err, IfOk, OnOk, IsOk, MatchOption, MatchResult};
-ghost use Rattle.tb_core.specs.Limits.{Operands, Depth, Width, measures, measures_all, measures_of_lambdas, lambdas_measures, call_measures, form_measures, forms_measures, judged, judge, judge_program, no_widths, IsSmall};
+ghost use Rattle.std.specs.Prelude.{◌≡◌, ◌+◌, ◌≤◌, ◌<◌, ◌*◌, ◌^◌, length, map, drop, slice_get, Ok, Err, IfOk, OnOk, IsOk, MatchOption, MatchResult};
+ghost use Rattle.tb_core.specs.Limits.{Operands, Depth, Width, measures, measures_all, measures_of_lambdas, lambdas_measures, first_measures, parameter_measures, form_measures, forms_measures, judged, judge, judge_program, no_widths, IsSmall};
 ghost use Rattle.tb_core.specs.Width as widths;
 ghost use Rattle.tb_core.specs.Width.{width_of, square_sum};
 ghost use Rattle.tb_core.specs.View.{view, view_core, trees, view_lambda, view_program};
@@ -54,9 +54,9 @@ pub(crate) fn nodes_left(left: usize, expr: &Expr) -> Option<usize>
             let left = nodes_left(left, first.get())?;
             nodes_left(left, second.get())
         }
-        Core::SetLocal(_, value) => nodes_left(left, value.get()),
-        Core::SetGlobal(_, value) => nodes_left(left, value.get()),
-        Core::DefGlobal(_, value) => nodes_left(left, value.get()),
+        Core::SetLocal(_, value) | Core::SetGlobal(_, value) | Core::DefGlobal(_, value) => {
+            nodes_left(left, value.get())
+        }
         Core::Let(_, values, body) => {
             let left = nodes_left_of_all(left, values.as_slice())?;
             nodes_left(left, body.get())
@@ -65,12 +65,11 @@ pub(crate) fn nodes_left(left: usize, expr: &Expr) -> Option<usize>
             let left = left.checked_sub(lambdas.as_slice().len())?;
             nodes_left(left, body.get())
         }
-        Core::Seq(exprs) => nodes_left_of_all(left, exprs.as_slice()),
         Core::Call(operator, operands) => {
             let left = nodes_left(left, operator.get())?;
             nodes_left_of_all(left, operands.as_slice())
         }
-        Core::Prim(_, operands) => nodes_left_of_all(left, operands.as_slice()),
+        Core::Seq(exprs) | Core::Prim(_, exprs) => nodes_left_of_all(left, exprs.as_slice()),
         Core::Apply(procedure, list) => {
             let left = nodes_left(left, procedure.get())?;
             nodes_left(left, list.get())
@@ -194,15 +193,7 @@ fn check_expr(
             let totals = check_expr(lambdas, first, scope, depth + 1, totals, then.get())?;
             check_expr(lambdas, first, scope, depth + 1, totals, other.get())
         }
-        Core::SetLocal(_, value) => {
-            let totals = check_depth(totals, expr.place, depth)?;
-            check_expr(lambdas, first, scope, depth + 1, totals, value.get())
-        }
-        Core::SetGlobal(_, value) => {
-            let totals = check_depth(totals, expr.place, depth)?;
-            check_expr(lambdas, first, scope, depth + 1, totals, value.get())
-        }
-        Core::DefGlobal(_, value) => {
+        Core::SetLocal(_, value) | Core::SetGlobal(_, value) | Core::DefGlobal(_, value) => {
             let totals = check_depth(totals, expr.place, depth)?;
             check_expr(lambdas, first, scope, depth + 1, totals, value.get())
         }
@@ -218,7 +209,7 @@ fn check_expr(
             let totals = check_lambdas(lambdas, first, inside, depth, totals, numbers.as_slice())?;
             check_expr(lambdas, first, inside, depth + 1, totals, body.get())
         }
-        Core::Seq(exprs) => {
+        Core::Seq(exprs) | Core::Prim(_, exprs) => {
             let totals = check_depth(totals, expr.place, depth)?;
             check_exprs(lambdas, first, scope, depth + 1, totals, exprs.as_slice())
         }
@@ -226,17 +217,6 @@ fn check_expr(
             let totals = check_operands(totals, expr.place, operands.as_slice().len())?;
             let totals = check_depth(totals, expr.place, depth)?;
             let totals = check_expr(lambdas, first, scope, depth + 1, totals, operator.get())?;
-            check_exprs(
-                lambdas,
-                first,
-                scope,
-                depth + 1,
-                totals,
-                operands.as_slice(),
-            )
-        }
-        Core::Prim(_, operands) => {
-            let totals = check_depth(totals, expr.place, depth)?;
             check_exprs(
                 lambdas,
                 first,
@@ -339,18 +319,34 @@ fn check_lambda(
     )
 }
 
-/// The operands of an expression that is a call, against their limit.
+/// The parameters of a lambda expression by its number, against their limit.
 #[tactic(auto, using(crate::proofs::Judging::judging))]
-fn check_call(totals: Totals, expr: &Expr) -> Result<Totals, CoreRefusal>
-    ensures value { result ≡ judge (Ok totals) (call_measures expr.now.place (view_core expr.now.core)) }
+fn check_parameters(
+    lambdas: &[Lambda],
+    totals: Totals,
+    number: LambdaId,
+) -> Result<Totals, CoreRefusal>
+    ensures value { result ≡ judge (Ok totals) (parameter_measures (slice_get (map view_lambda lambdas.now) number)) }
     ensures small { IfOk result (λ after. after ≡ totals) }
 {
-    match &expr.core {
-        Core::Call(_, operands) => check_operands(totals, expr.place, operands.as_slice().len()),
+    match lambdas.get(number as usize) {
+        Some(lambda) => check_operands(totals, lambda.place, lambda.parameter_count()),
+        None => Ok(totals),
+    }
+}
+
+/// What is judged of a form before its width: the operands of a call and the parameters of a lambda expression.
+#[tactic(auto, using(crate::proofs::Judging::judging))]
+fn check_first(lambdas: &[Lambda], totals: Totals, form: &Expr) -> Result<Totals, CoreRefusal>
+    ensures value { result ≡ judge (Ok totals) (first_measures (map view_lambda lambdas.now) form.now.place (view_core form.now.core)) }
+    ensures small { IfOk result (λ after. after ≡ totals) }
+{
+    match &form.core {
+        Core::Call(_, operands) => check_operands(totals, form.place, operands.as_slice().len()),
+        Core::Lambda(number) => check_parameters(lambdas, totals, *number),
         Core::Quote(_)
         | Core::Local(_)
         | Core::Global(_)
-        | Core::Lambda(_)
         | Core::If(..)
         | Core::SetLocal(..)
         | Core::SetGlobal(..)
@@ -367,10 +363,10 @@ fn check_call(totals: Totals, expr: &Expr) -> Result<Totals, CoreRefusal>
 #[tactic(auto, using(crate::proofs::Judging::judging))]
 fn check_form(lambdas: &[Lambda], totals: Totals, form: &Expr) -> Result<Totals, CoreRefusal>
     requires { IsSmall totals }
-    ensures value { result ≡ judge (Ok totals) (form_measures (lambdas_measures (map view_lambda lambdas.now) 0) (view form.now)) }
+    ensures value { result ≡ judge (Ok totals) (form_measures (map view_lambda lambdas.now) (view form.now)) }
     ensures small { IfOk result (λ after. IsSmall after) }
 {
-    let totals = check_call(totals, form)?;
+    let totals = check_first(lambdas, totals, form)?;
     let totals = check_width(totals, form.place, 0, form)?;
     check_expr(lambdas, 0, 0, 1, totals, form)
 }
@@ -378,7 +374,7 @@ fn check_form(lambdas: &[Lambda], totals: Totals, form: &Expr) -> Result<Totals,
 /// The same of these forms, one after another.
 #[tactic(auto, using(crate::proofs::Judging::judging))]
 fn check_forms(lambdas: &[Lambda], forms: &[Expr]) -> Result<Totals, CoreRefusal>
-    ensures value { result ≡ judge (Ok no_widths) (forms_measures (lambdas_measures (map view_lambda lambdas.now) 0) (trees (map view forms.now))) }
+    ensures value { result ≡ judge (Ok no_widths) (forms_measures (map view_lambda lambdas.now) (trees (map view forms.now))) }
     ensures small { IfOk result (λ after. IsSmall after) }
 {
     let mut totals = Totals {
@@ -402,7 +398,8 @@ pub(crate) fn program_totals(program: &Program) -> Result<Totals, CoreRefusal>
 /// Checks the limits of the core language: nodes nest at most 1,000 deep, a call has at most 12 operands and a
 /// lambda expression at most 12 parameters, the rest one counted, a body or form is at most 1,000 wide, and the
 /// sum of their squared widths is at most 1,048,576. Otherwise gives the first offence in written order, the
-/// number of operands of a node before its depth, and its depth before its width. Takes no memory, and goes no
+/// number of operands or parameters of a node before its depth, and its depth before its width; those of a form that is
+/// itself a call or a lambda expression come before the form's width. Takes no memory, and goes no
 /// deeper than 1,001 nodes.
 pub fn check(program: &Program) -> Result<(), CoreRefusal>
     ensures first_offence { MatchResult result (λ _. IsOk (judge_program (view_program program.now))) (λ refusal. judge_program (view_program program.now) ≡ Err refusal) }

@@ -44,19 +44,22 @@ fn put_targets(levels: u32, out: &mut Vec<VarId>, expr: &Expr) -> Result<(), NoM
             out.push(*variable)?;
             put_targets(levels, out, value.get())
         }
-        Core::SetGlobal(_, value) => put_targets(levels, out, value.get()),
-        Core::DefGlobal(_, value) => put_targets(levels, out, value.get()),
+        Core::SetGlobal(_, value) | Core::DefGlobal(_, value) | Core::Letrec(_, _, value) => {
+            put_targets(levels, out, value.get())
+        }
         Core::Let(_, values, body) => {
             put_targets_of_all(levels, out, values.as_slice())?;
             put_targets(levels, out, body.get())
         }
-        Core::Letrec(_, _, body) => put_targets(levels, out, body.get()),
-        Core::Seq(exprs) => put_targets_of_all(levels, out, exprs.as_slice()),
         Core::Call(operator, operands) => {
             put_targets(levels, out, operator.get())?;
             put_targets_of_all(levels, out, operands.as_slice())
         }
-        Core::Prim(_, operands) => put_targets_of_all(levels, out, operands.as_slice()),
+        Core::Seq(exprs) | Core::Prim(_, exprs) => put_targets_of_all(
+            levels,
+            out,
+            exprs.as_slice(),
+        ),
         Core::Apply(procedure, list) => {
             put_targets(levels, out, procedure.get())?;
             put_targets(levels, out, list.get())
@@ -261,33 +264,9 @@ fn put_lines(
             put_lines(alloc, marked, lambdas, first, levels, out, then.get())?;
             put_lines(alloc, marked, lambdas, first, levels, out, other.get())
         }
-        Core::SetLocal(_, value) => put_lines(
-            alloc,
-            marked,
-            lambdas,
-            first,
-            levels,
-            out,
-            value.get(),
-        ),
-        Core::SetGlobal(_, value) => put_lines(
-            alloc,
-            marked,
-            lambdas,
-            first,
-            levels,
-            out,
-            value.get(),
-        ),
-        Core::DefGlobal(_, value) => put_lines(
-            alloc,
-            marked,
-            lambdas,
-            first,
-            levels,
-            out,
-            value.get(),
-        ),
+        Core::SetLocal(_, value) | Core::SetGlobal(_, value) | Core::DefGlobal(_, value) => {
+            put_lines(alloc, marked, lambdas, first, levels, out, value.get())
+        }
         Core::Let(_, values, body) => {
             put_line(
                 out,

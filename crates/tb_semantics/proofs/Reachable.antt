@@ -1,7 +1,7 @@
 -- The size of what can be reached, and how those of two graphs compare.
-use Rattle.std.proofs.Common.{◌≡◌, ℕ, zero, suc, ◌+◌, ◌<◌, ◌≤◌, Bool, true, false, cond, ◌==◌, ◌||◌, ◌⊎◌, List, [], ◌∷◌, refl, sym, ap, ◌∙◌, subst, inl, inr, ⊎_elim, arith, eqb-true, eq-eqb}
+use Rattle.std.proofs.Common.{◌≡◌, ℕ, zero, suc, ◌+◌, ◌*◌, ◌<◌, ◌≤◌, Bool, true, false, cond, ◌==◌, ◌||◌, ◌⊎◌, List, [], ◌∷◌, refl, sym, ap, ◌∙◌, subst, inl, inr, ⊎_elim, arith, eqb-true, eq-eqb}
 use Rattle.std.proofs.lemmas.Bool.{or_cases, and_parts, and_from, cases_Bool, cases_eq}
-use Rattle.tb_semantics.specs.Graph.{IsIn, IsApart, IsClosed, ListsReachable, Graph, Reaches, root, child, has, joined, below, from_some, reaches, kept, sum_of, total}
+use Rattle.tb_semantics.specs.Graph.{IsIn, IsApart, IsClosed, ListsReachable, Graph, Reaches, root, child, has, joined, below, from_some, reaches, kept, sum_of, total, with_roots}
 
 or_left : (a b : Bool) → a ≡ true → (a || b) ≡ true
 or_left a b e = rw e refl
@@ -29,7 +29,8 @@ data Path (next : ℕ → List ℕ) (us : List ℕ) (a : ℕ) : ℕ → Type 0 w
   via : {m b : ℕ} → Path next us a m → IsIn m us → IsIn b (next m) → Path next us a b
 
 -- without the first node, or to it and from it
-around : (next : ℕ → List ℕ) (u : ℕ) (us : List ℕ) (a b : ℕ) → Path next (u ∷ us) a b → Path next us a b ⊎ (Path next us a u × Path next us u b)
+around : (next : ℕ → List ℕ) (u : ℕ) (us : List ℕ) (a b : ℕ) → Path next (u ∷ us) a b →
+    Path next us a b ⊎ (Path next us a u × Path next us u b)
 around next u us a b (edge e) = inl (edge e)
 around next u us a b (via {m = m} p (inl q) e) =
     let last : Path next us u b = edge (subst (λ k. IsIn b (next k)) (sym q) e) in
@@ -57,7 +58,8 @@ joined_reaches g (u ∷ us) a b e r =
     (λ h. let p = and_parts (joined g.next us a u) (joined g.next us u b) h in joined_reaches g us u b p.1 (joined_reaches g us a u p.0 r))
     (or_cases (joined g.next us a b) _ e)
 
-from_some_reaches : (g : Graph) (us rs : List ℕ) (l : ℕ) → ((r : ℕ) → IsIn r rs → Reaches g r) → from_some g.next us rs l ≡ true → Reaches g l
+from_some_reaches : (g : Graph) (us rs : List ℕ) (l : ℕ) → ((r : ℕ) → IsIn r rs → Reaches g r) →
+    from_some g.next us rs l ≡ true → Reaches g l
 from_some_reaches g us [] l all e = cc
 from_some_reaches g us (r ∷ rs) l all e =
     ⊎_elim
@@ -65,13 +67,15 @@ from_some_reaches g us (r ∷ rs) l all e =
     (λ h. from_some_reaches g us rs l (λ s i. all s (inr i)) h)
     (or_cases ((r == l) || joined g.next us r l) _ e)
 
-reaches_from_some : (g : Graph) (us rs : List ℕ) (r l : ℕ) → IsIn r rs → (r ≡ l) ⊎ Path g.next us r l → from_some g.next us rs l ≡ true
+reaches_from_some : (g : Graph) (us rs : List ℕ) (r l : ℕ) → IsIn r rs → (r ≡ l) ⊎ Path g.next us r l →
+    from_some g.next us rs l ≡ true
 reaches_from_some g us [] r l i p = absurd i
 reaches_from_some g us (x ∷ rs) r l (inr i) p = or_right _ _ (reaches_from_some g us rs r l i p)
 reaches_from_some g us (x ∷ rs) r l (inl i) (inl e) = or_left _ _ (or_left _ _ (eq-eqb x l (i ∙ e)))
 reaches_from_some g us (x ∷ rs) r l (inl i) (inr p) = or_left _ _ (or_right _ _ (path_joined g.next us x l (subst (λ k. Path g.next us k l) (sym i) p)))
 
-start_of : (g : Graph) → IsClosed g → (l : ℕ) → Reaches g l → (r : ℕ) × IsIn r g.roots × ((r ≡ l) ⊎ Path g.next (below g.count) r l)
+start_of : (g : Graph) → IsClosed g → (l : ℕ) → Reaches g l →
+    (r : ℕ) × IsIn r g.roots × ((r ≡ l) ⊎ Path g.next (below g.count) r l)
 start_of g closed l (root i) = (l, i, inl refl)
 start_of g closed l (child {k = k} p i) =
     let s = start_of g closed k p in (
@@ -115,13 +119,15 @@ module _ (P : ℕ → ℕ → Type 0) (small large : ℕ → ℕ) (apart : (a b 
   abbrev pub HasPartner : List ℕ → ℕ → Type 0
   HasPartner ss t = (s : ℕ) × IsIn s ss × P t s × (small t ≤ large s)
 
-  partner_stays : (t : ℕ) (ss : List ℕ) (p : HasPartner ss t) (u : ℕ) → (t ≡ u → ⊥) → HasPartner ss u → HasPartner (dropped p.0 ss p.1) u
+  partner_stays : (t : ℕ) (ss : List ℕ) (p : HasPartner ss t) (u : ℕ) → (t ≡ u → ⊥) → HasPartner ss u →
+      HasPartner (dropped p.0 ss p.1) u
   partner_stays t ss p u ne q = (q.0, in-dropped p.0 q.0 ss p.1 (λ e. ne (apart t u q.0 (subst (P t) e p.2) q.2)) q.1, q.2, q.3)
 
   not_first : (t : ℕ) (ts : List ℕ) → (IsIn t ts → ⊥) → (u : ℕ) → IsIn u ts → t ≡ u → ⊥
   not_first t ts n u i e = n (subst (λ v. IsIn v ts) (sym e) i)
 
-  pub sum_by_partners : (ts ss : List ℕ) → IsApart ts → ((t : ℕ) → IsIn t ts → HasPartner ss t) → sum_of small ts ≤ sum_of large ss
+  pub sum_by_partners : (ts ss : List ℕ) → IsApart ts → ((t : ℕ) → IsIn t ts → HasPartner ss t) →
+      sum_of small ts ≤ sum_of large ss
   sum_by_partners [] ss ap_ts f = omega arith
   sum_by_partners (t ∷ ts) ss a f =
       let p = f t (inl refl) in
@@ -131,7 +137,8 @@ module _ (P : ℕ → ℕ → Type 0) (small large : ℕ → ℕ) (apart : (a b 
       omega arith
 
   -- one element at most has no partner
-  pub sum_by_partners_but : (d odd : ℕ) (ts ss : List ℕ) → IsApart ts → small odd ≤ d → ((t : ℕ) → IsIn t ts → (t ≡ odd) ⊎ HasPartner ss t) → sum_of small ts ≤ sum_of large ss + d
+  pub sum_by_partners_but : (d odd : ℕ) (ts ss : List ℕ) → IsApart ts → small odd ≤ d →
+      ((t : ℕ) → IsIn t ts → (t ≡ odd) ⊎ HasPartner ss t) → sum_of small ts ≤ sum_of large ss + d
   sum_by_partners_but d odd [] ss a le f = omega arith
   sum_by_partners_but d odd (t ∷ ts) ss a le f =
       ⊎_elim
@@ -198,7 +205,8 @@ module _ (P : ℕ → ℕ → Type 0) (small large : ℕ → ℕ) (t s : Graph) 
       (apart_kept (reaches t) (below t.count) (apart_below t.count))
       (λ a i. partner_of a (cover a (reaches-true t a (kept_in (reaches t) (below t.count) a i).1)))
 
-  pub total_by_partners_but : (d odd : ℕ) → small odd ≤ d → ((a : ℕ) → Reaches t a → (a ≡ odd) ⊎ HasMatch P s a) → total small t ≤ total large s + d
+  pub total_by_partners_but : (d odd : ℕ) → small odd ≤ d → ((a : ℕ) → Reaches t a → (a ≡ odd) ⊎ HasMatch P s a) →
+      total small t ≤ total large s + d
   unfolding total
   total_by_partners_but d odd le cover =
       sum_by_partners_but P small large apart d odd (kept (reaches t) (below t.count)) (kept (reaches s) (below s.count))
@@ -206,12 +214,14 @@ module _ (P : ℕ → ℕ → Type 0) (small large : ℕ → ℕ) (t s : Graph) 
       (λ a i. ⊎_elim inl (λ m. inr (partner_of a m)) (cover a (reaches-true t a (kept_in (reaches t) (below t.count) a i).1)))
 
 -- from roots and edges alone
-pub covers : (P : ℕ → ℕ → Type 0) (t s : Graph) → ((a : ℕ) → IsIn a t.roots → HasMatch P s a) → ((a b c : ℕ) → P a b → Reaches s b → IsIn c (t.next a) → HasMatch P s c) → (a : ℕ) → Reaches t a → HasMatch P s a
+pub covers : (P : ℕ → ℕ → Type 0) (t s : Graph) → ((a : ℕ) → IsIn a t.roots → HasMatch P s a) →
+    ((a b c : ℕ) → P a b → Reaches s b → IsIn c (t.next a) → HasMatch P s c) → (a : ℕ) → Reaches t a → HasMatch P s a
 covers P t s roots next a (root i) = roots a i
 covers P t s roots next a (child {k = k} p i) = let m = covers P t s roots next k p in next k m.0 a m.2 m.1 i
 
 -- the sum over any list of the reachable nodes, each once
-pub total-unique : (size : ℕ → ℕ) (g : Graph) (xs : List ℕ) → IsClosed g → ListsReachable g xs → sum_of size xs ≡ total size g
+pub total-unique : (size : ℕ → ℕ) (g : Graph) (xs : List ℕ) → IsClosed g → ListsReachable g xs →
+    sum_of size xs ≡ total size g
 unfolding total
 total-unique size g xs closed r =
     let P : ℕ → ℕ → Type 0 = λ m n. m ≡ n in
@@ -232,16 +242,85 @@ pub total-within : (size : ℕ → ℕ) (g : Graph) → total size g ≤ sum_of 
 unfolding total
 total-within size g = sum_kept size (reaches g) (below g.count)
 
--- nodes of two graphs stand for one another: one node of the first at most for a node of the second, which
--- is no smaller; what the first reaches at once stands for something that the second reaches, and so does
--- each node that one which stands for something leads to
+-- nodes of two graphs stand for one another: one node of the first at most for a node of the second, which is no
+-- smaller; what the first reaches at once stands for something that the second reaches, and so does each node that
+-- one which stands for something leads to
 pub record Partners (P : ℕ → ℕ → Type 0) (small large : ℕ → ℕ) (t s : Graph) : Type 0 where
   pub one_each : (a b c : ℕ) → P a c → P b c → a ≡ b
   pub within : (a b : ℕ) → P a b → b < s.count
   pub sizes : (a b : ℕ) → P a b → small a ≤ large b
-  pub at_roots : (a : ℕ) → IsIn a t.roots → (b : ℕ) × Reaches s b × P a b
-  pub at_edges : (a b c : ℕ) → P a b → Reaches s b → IsIn c (t.next a) → (d : ℕ) × Reaches s d × P c d
+  pub at_roots : (a : ℕ) → IsIn a t.roots → HasMatch P s a
+  pub at_edges : (a b c : ℕ) → P a b → Reaches s b → IsIn c (t.next a) → HasMatch P s c
 
-pub total-partners : (P : ℕ → ℕ → Type 0) (small large : ℕ → ℕ) (t s : Graph) → IsClosed s → Partners P small large t s → total small t ≤ total large s
+-- the first graph then reaches no more
+pub total-partners : (P : ℕ → ℕ → Type 0) (small large : ℕ → ℕ) (t s : Graph) → IsClosed s →
+    Partners P small large t s → total small t ≤ total large s
 total-partners P small large t s closed h =
     total_by_partners P small large t s closed h.one_each h.within h.sizes (covers P t s h.at_roots h.at_edges)
+
+-- the same where one odd node of the first may be a root and stand for nothing; it leads to what stands for something
+pub record PartnersBut (P : ℕ → ℕ → Type 0) (small large : ℕ → ℕ) (t s : Graph) (odd : ℕ) : Type 0 where
+  pub one_each : (a b c : ℕ) → P a c → P b c → a ≡ b
+  pub within : (a b : ℕ) → P a b → b < s.count
+  pub sizes : (a b : ℕ) → P a b → small a ≤ large b
+  pub at_roots : (a : ℕ) → IsIn a t.roots → (a ≡ odd) ⊎ HasMatch P s a
+  pub at_edges : (a b c : ℕ) → P a b → Reaches s b → IsIn c (t.next a) → HasMatch P s c
+  pub odd_edges : (c : ℕ) → IsIn c (t.next odd) → HasMatch P s c
+
+covers_but : (P : ℕ → ℕ → Type 0) (small large : ℕ → ℕ) (t s : Graph) (odd : ℕ) → PartnersBut P small large t s odd →
+    (a : ℕ) → Reaches t a → (a ≡ odd) ⊎ HasMatch P s a
+covers_but P small large t s odd h a (root i) = h.at_roots a i
+covers_but P small large t s odd h a (child {k = k} p i) =
+    ⊎_elim
+    (λ e. inr (h.odd_edges a (subst (λ k. IsIn a (t.next k)) e i)))
+    (λ m. inr (h.at_edges k m.0 a m.2 m.1 i))
+    (covers_but P small large t s odd h k p)
+
+-- the first graph then reaches no more than the second and that node
+pub total-partners_but : (P : ℕ → ℕ → Type 0) (small large : ℕ → ℕ) (t s : Graph) (odd : ℕ) → IsClosed s →
+    PartnersBut P small large t s odd → total small t ≤ total large s + small odd
+total-partners_but P small large t s odd closed h =
+    total_by_partners_but P small large t s closed h.one_each h.within h.sizes (small odd) odd (omega arith) (covers_but P small large t s odd h)
+
+kept_step : (size : ℕ → ℕ) (x : ℕ) (xs ys : List ℕ) (a b : Bool) → (a ≡ true → b ≡ true) →
+    sum_of size xs ≤ sum_of size ys → sum_of size (cond a (x ∷ xs) xs) ≤ sum_of size (cond b (x ∷ ys) ys)
+kept_step size x xs ys true true h le = omega arith
+kept_step size x xs ys true false h le = let no_way = h refl in cc
+kept_step size x xs ys false true h le = omega arith
+kept_step size x xs ys false false h le = le
+
+kept_more : (f g : ℕ → Bool) (size : ℕ → ℕ) → ((x : ℕ) → f x ≡ true → g x ≡ true) → (xs : List ℕ) →
+    sum_of size (kept f xs) ≤ sum_of size (kept g xs)
+kept_more f g size h [] = omega arith
+kept_more f g size h (x ∷ xs) = kept_step size x _ _ (f x) (g x) (h x) (kept_more f g size h xs)
+
+-- where a graph reaches another's roots, over the same nodes and edges, it reaches all that the other does
+pub reaches-more : (g : Graph) (ss : List ℕ) → ((l : ℕ) → IsIn l g.roots → Reaches (with_roots g ss) l) → (l : ℕ) →
+    Reaches g l → Reaches (with_roots g ss) l
+reaches-more g ss h l (root i) = h l i
+reaches-more g ss h l (child p i) = child (reaches-more g ss h _ p) i
+
+-- so it reaches no less
+pub total-more : (size : ℕ → ℕ) (g : Graph) (ss : List ℕ) → IsClosed g →
+    ((l : ℕ) → IsIn l g.roots → Reaches (with_roots g ss) l) → total size g ≤ total size (with_roots g ss)
+unfolding total
+total-more size g ss closed h =
+    kept_more (reaches g) (reaches (with_roots g ss)) size
+    (λ x e. Reaches-reaches (with_roots g ss) closed x (reaches-more g ss h x (reaches-true g x e))) (below g.count)
+
+sum_of-scaled : (factor : ℕ) (size : ℕ → ℕ) (xs : List ℕ) → sum_of (λ l. factor * size l) xs ≡ factor * sum_of size xs
+sum_of-scaled factor size [] = omega arith
+sum_of-scaled factor size (x ∷ xs) = let h = sum_of-scaled factor size xs in omega arith
+
+-- sizes that are multiples
+pub total-scaled : (factor : ℕ) (size : ℕ → ℕ) (g : Graph) → total (λ l. factor * size l) g ≡ factor * total size g
+unfolding total
+total-scaled factor size g = sum_of-scaled factor size (kept (reaches g) (below g.count))
+
+-- the nodes that the test lets pass are exactly those that can be reached, each once
+pub reachable_kept : (g : Graph) → IsClosed g → ListsReachable g (kept (reaches g) (below g.count))
+reachable_kept g closed = record {
+  apart = apart_kept (reaches g) (below g.count) (apart_below g.count);
+  sound = λ l i. let h = kept_in (reaches g) (below g.count) l i in (in_below g.count l h.0, reaches-true g l h.1);
+  full = λ l lt r. in_kept (reaches g) (below g.count) l (below_in g.count l lt) (Reaches-reaches g closed l r);
+}

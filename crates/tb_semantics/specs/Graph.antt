@@ -26,6 +26,10 @@ pub data Reaches (g : Graph) : ℕ → Type 0 where
   root : {l : ℕ} → IsIn l g.roots → Reaches g l
   child : {k l : ℕ} → Reaches g k → IsIn l (g.next k) → Reaches g l
 
+-- the same nodes and edges, with other roots
+abbrev pub with_roots : Graph → List ℕ → Graph
+with_roots g rs = record { count = g.count; next = g.next; roots = rs }
+
 -- the list holds exactly the nodes that can be reached, each once
 pub record ListsReachable (g : Graph) (xs : List ℕ) : Type 0 where
   pub apart : IsApart xs

@@ -33,7 +33,7 @@ EmitsInOrder {E} {S} m = (s : S) → Appends (m.events s) (m.events (m.step s))
 
 -- the target's events at any moment are the source's at some moment, and the target comes to each of the
 -- source's events
-pub record Keeps {E T S : Type 0} (target : Machine E T) (source : Machine E S) : Type 0 where
+pub record KeepsEvents {E T S : Type 0} (target : Machine E T) (source : Machine E S) : Type 0 where
   pub events : (n : ℕ) → (m : ℕ) × (target.events (after target n) ≡ source.events (after source m))
   pub comes : (m : ℕ) → (n : ℕ) × (length (source.events (after source m)) ≤ length (target.events (after target n)))
 

@@ -1,5 +1,7 @@
+//! Laws of runs, and of keeping by events alone.
+
 ghost use Rattle.std.specs.Prelude.{ℕ, ◌+◌, ◌≡◌, List, []};
-ghost use Rattle.tb_semantics.specs.Runs.{Machine, Keeps, EmitsInOrder, Ends, IsPrefix, after};
+ghost use Rattle.tb_semantics.specs.Runs.{Machine, KeepsEvents, EmitsInOrder, Ends, IsPrefix, after};
 
 /// A machine whose steps only append to its events has, after fewer steps, a prefix of its later events.
 pub fn events_only_grow<E, S>()
@@ -7,14 +9,14 @@ pub fn events_only_grow<E, S>()
 {}
 
 /// Two passes, one after the other, keep what both keep.
-pub fn keeps_composes<E, A, B, C>()
-    ensures law { (a : Machine E A) (b : Machine E B) (c : Machine E C) → Keeps a b → Keeps b c → Keeps a c }
+pub fn keeps_events_composes<E, A, B, C>()
+    ensures law { (a : Machine E A) (b : Machine E B) (c : Machine E C) → KeepsEvents a b → KeepsEvents b c → KeepsEvents a c }
 {}
 
 /// Two machines that come to an end with the same events keep one another.
 pub fn same_end_keeps<E, A, B>()
     ensures law { (a : Machine E A) (b : Machine E B) → EmitsInOrder a → EmitsInOrder b → b.events b.start ≡ [] →
-        (n m : ℕ) (es : List E) → Ends a n es → Ends b m es → Keeps a b }
+        (n m : ℕ) (es : List E) → Ends a n es → Ends b m es → KeepsEvents a b }
 {}
 
 /// A run that has come to a state which steps to itself stays there.

@@ -4,8 +4,9 @@ use Rattle.tb_prim.specs.declared.place.Place.{Place}
 use Rattle.tb_sexp.specs.declared.token.Mark.{Mark}
 use Rattle.tb_sexp.specs.declared.token.Token.{Token}
 use Rattle.tb_sexp.specs.declared.token.Token.TheVariants as token
-use Rattle.tb_sexp.specs.Frames.{Frame, InMark}
-use Rattle.tb_sexp.specs.Grammar.{Placed, placed, Atom, of_bool, of_fix, of_char, of_str, of_name, IsDatum, an_atom, a_mark, a_list, a_dotted_list, a_vector, AreData, no_data, more_data, is_opening, is_bracket, Balanced, no_bracket, other_token, closed, OpenedLast, EndsWith, IsOpenAt, in_list, after_dot, after_tail, in_vector}
+use Rattle.tb_sexp.specs.calls.Frames.{Frame, InMark}
+use Rattle.tb_sexp.specs.Grammar.{Placed, placed, Atom, of_bool, of_fix, of_char, of_str, of_name, IsDatum, an_atom, a_mark, a_list, a_dotted_list, a_vector, AreData, no_data, more_data, is_opening, is_bracket, Balanced, no_bracket, other_token, closed, OpenedLast, EndsWith}
+use Rattle.tb_sexp.specs.calls.Reached.{IsOpenAt, in_list, after_dot, after_tail, in_vector}
 use Rattle.tb_sexp.specs.Tree.{Tree, Shape}
 use Rattle.tb_sexp.proofs.GrammarOpens.{Opens, behind_mark, inside_list, behind_dot, behind_tail, inside_vector}
 

@@ -7,10 +7,11 @@ use Rattle.tb_sexp.specs.declared.token.Token.{Token}
 use Rattle.tb_sexp.specs.declared.token.Token.TheVariants as token
 use Rattle.tb_sexp.specs.declared.refusal.ReadRefusal.{ReadRefusal}
 use Rattle.tb_sexp.specs.declared.refusal.ReadRefusal.TheVariants.{Syntax, Unclosed, TooDeep}
-use Rattle.tb_sexp.specs.Bytes.{blanks}
-use Rattle.tb_sexp.specs.Frames.{Frame, InMark, InList, AfterDot, AfterTail, InVector, State}
-use Rattle.tb_sexp.specs.Grammar.{Placed, placed, AreData, CanGoOn, CanGoOnSomehow, Reaches, one_more, OpenedLast, EndsWith, in_list, after_dot, after_tail, in_vector}
-use Rattle.tb_sexp.specs.Reading.{accept, finish}
+use Rattle.tb_sexp.specs.calls.Scanning.{blanks}
+use Rattle.tb_sexp.specs.calls.Frames.{Frame, InMark, InList, AfterDot, AfterTail, InVector, State}
+use Rattle.tb_sexp.specs.Grammar.{Placed, placed, AreData, CanGoOn, CanGoOnSomehow, OpenedLast, EndsWith}
+use Rattle.tb_sexp.specs.calls.Reached.{Reaches, one_more, in_list, after_dot, after_tail, in_vector}
+use Rattle.tb_sexp.specs.calls.Reading.{accept, finish}
 use Rattle.tb_sexp.specs.Tree.{Tree}
 use Rattle.tb_sexp.proofs.GrammarOpens.{run_whole, data_run, go_on_runs, run_goes_on}
 use Rattle.tb_sexp.proofs.GrammarLaws.{whole, only, one_state, goes_on, runs_higher, syntax_law, deep_law, no_other, mark_last, bracket_last}

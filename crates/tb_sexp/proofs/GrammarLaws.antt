@@ -7,11 +7,12 @@ use Rattle.tb_sexp.specs.declared.token.Token.{Token}
 use Rattle.tb_sexp.specs.declared.token.Token.TheVariants as token
 use Rattle.tb_sexp.specs.declared.refusal.ReadRefusal.{ReadRefusal}
 use Rattle.tb_sexp.specs.declared.refusal.ReadRefusal.TheVariants.{Syntax, TooDeep}
-use Rattle.tb_sexp.specs.Bytes.{blanks}
-use Rattle.tb_sexp.specs.Frames.{Frame, InMark, State}
-use Rattle.tb_sexp.specs.Grammar.{Placed, placed, Atom, an_atom, AreData, CanGoOn, CanGoOnSomehow, Reaches, OpenedLast, EndsWith, IsOpenAt, in_list, after_dot, after_tail, in_vector, IsLastMark}
-use Rattle.tb_sexp.specs.Reading.{takes_datum, accept}
-use Rattle.tb_sexp.specs.Runs.{nothing}
+use Rattle.tb_sexp.specs.calls.Scanning.{blanks}
+use Rattle.tb_sexp.specs.calls.Frames.{Frame, InMark, State}
+use Rattle.tb_sexp.specs.Grammar.{Placed, placed, Atom, an_atom, AreData, CanGoOn, CanGoOnSomehow, OpenedLast, EndsWith}
+use Rattle.tb_sexp.specs.calls.Reached.{Reaches, IsOpenAt, in_list, after_dot, after_tail, in_vector, IsLastMark}
+use Rattle.tb_sexp.specs.calls.Reading.{takes_datum, accept}
+use Rattle.tb_sexp.specs.calls.Runs.{nothing}
 use Rattle.tb_sexp.specs.Tree.{Tree, Shape}
 use Rattle.tb_sexp.proofs.GrammarSteps.{Begins, begins_mark, Step, begin_step, atom_step, step_higher, Answer, wrong, wrong_mark, deep, answer, atom_only}
 use Rattle.tb_sexp.proofs.GrammarRuns.{Runs, done, next, runs_then, runs_same, reaches_runs, runs_reach, parted, last_step, full_step, accept_step}

@@ -4,10 +4,11 @@ use Rattle.tb_prim.specs.declared.place.Place.{Place}
 use Rattle.tb_sexp.specs.declared.token.Mark.{Mark}
 use Rattle.tb_sexp.specs.declared.token.Token.{Token}
 use Rattle.tb_sexp.specs.declared.token.Token.TheVariants as token
-use Rattle.tb_sexp.specs.Frames.{Frame, InMark, InList, AfterDot, AfterTail, InVector, State, list_of, dotted, give}
+use Rattle.tb_sexp.specs.calls.Frames.{Frame, InMark, InList, AfterDot, AfterTail, InVector, State, give}
+use Rattle.tb_sexp.specs.ListShapes.{list_of, dotted}
 use Rattle.tb_sexp.specs.Grammar.{Placed, placed, of_bool, IsDatum, an_atom, a_mark, a_list, a_dotted_list, a_vector, AreData, no_data, more_data, CanGoOn}
-use Rattle.tb_sexp.specs.Reading.{takes_datum}
-use Rattle.tb_sexp.specs.Runs.{nothing}
+use Rattle.tb_sexp.specs.calls.Reading.{takes_datum}
+use Rattle.tb_sexp.specs.calls.Runs.{nothing}
 use Rattle.tb_sexp.specs.Tree.{Tree, At, Vector}
 use Rattle.tb_sexp.specs.View.{trees}
 use Rattle.tb_sexp.proofs.GrammarSteps.{Begins, begins_list, begins_vector, begins_mark, Step, begin_step, atom_step, list_step, dotted_step, vector_step, dot_step}

@@ -4,10 +4,11 @@ use Rattle.std.specs.Prelude.{Result, Ok}
 use Rattle.tb_prim.specs.declared.place.Place.{Place}
 use Rattle.tb_sexp.specs.declared.token.Token.{Token}
 use Rattle.tb_sexp.specs.declared.refusal.ReadRefusal.{ReadRefusal}
-use Rattle.tb_sexp.specs.Frames.{Frame, InMark, InList, AfterDot, InVector, State, give}
-use Rattle.tb_sexp.specs.Grammar.{Placed, placed, Atom, of_bool, of_fix, of_char, of_str, of_name, IsDatum, an_atom, a_mark, a_list, a_dotted_list, a_vector, AreData, no_data, more_data, Reaches, start, one_more}
-use Rattle.tb_sexp.specs.Reading.{takes_datum, accept}
-use Rattle.tb_sexp.specs.Runs.{nothing}
+use Rattle.tb_sexp.specs.calls.Frames.{Frame, InMark, InList, AfterDot, InVector, State, give}
+use Rattle.tb_sexp.specs.Grammar.{Placed, placed, Atom, of_bool, of_fix, of_char, of_str, of_name, IsDatum, an_atom, a_mark, a_list, a_dotted_list, a_vector, AreData, no_data, more_data}
+use Rattle.tb_sexp.specs.calls.Reached.{Reaches, start, one_more}
+use Rattle.tb_sexp.specs.calls.Reading.{takes_datum, accept}
+use Rattle.tb_sexp.specs.calls.Runs.{nothing}
 use Rattle.tb_sexp.specs.Tree.{Tree, At, Shape}
 use Rattle.tb_sexp.proofs.GrammarSteps.{Begins, begins_list, begins_vector, begins_mark, Step, begin_step, atom_step, list_step, dotted_step, vector_step, dot_step, Answer, goes, wrong, wrong_mark, deep, answer}
 

@@ -8,10 +8,11 @@ use Rattle.tb_sexp.specs.declared.token.Token.{Token}
 use Rattle.tb_sexp.specs.declared.token.Token.TheVariants as token
 use Rattle.tb_sexp.specs.declared.refusal.ReadRefusal.{ReadRefusal}
 use Rattle.tb_sexp.specs.declared.refusal.ReadRefusal.TheVariants.{Syntax, TooDeep}
-use Rattle.tb_sexp.specs.Bytes.{blanks}
-use Rattle.tb_sexp.specs.Frames.{Frame, InMark, InList, AfterDot, AfterTail, InVector, State, list_of, dotted, give}
+use Rattle.tb_sexp.specs.calls.Scanning.{blanks}
+use Rattle.tb_sexp.specs.calls.Frames.{Frame, InMark, InList, AfterDot, AfterTail, InVector, State, give}
+use Rattle.tb_sexp.specs.ListShapes.{list_of, dotted}
 use Rattle.tb_sexp.specs.Grammar.{Atom, of_bool, of_fix, of_char, of_str, of_name}
-use Rattle.tb_sexp.specs.Reading.{takes_datum, close, dot, accept}
+use Rattle.tb_sexp.specs.calls.Reading.{takes_datum, close, dot, accept}
 use Rattle.tb_sexp.specs.Tree.{Tree, At, Shape, Vector}
 use Rattle.tb_sexp.specs.View.{trees}
 

@@ -5,11 +5,11 @@ use Rattle.std.proofs.lemmas.Bool.Decides.{nat_tests}
 use Rattle.tb_prim.specs.declared.place.Place.{Place}
 use Rattle.tb_sexp.specs.declared.refusal.ReadRefusal.{ReadRefusal}
 use Rattle.tb_sexp.specs.declared.refusal.ReadRefusal.TheVariants.{Syntax, Unclosed, TooDeep, TooLong, TooBig, NoMemory}
-use Rattle.tb_sexp.specs.Bytes.{blanks}
-use Rattle.tb_sexp.specs.Frames.{State}
+use Rattle.tb_sexp.specs.calls.Scanning.{blanks}
+use Rattle.tb_sexp.specs.calls.Frames.{State}
 use Rattle.tb_sexp.specs.Places.{behind_all}
-use Rattle.tb_sexp.specs.Reading.{Refuses, finish}
-use Rattle.tb_sexp.specs.Runs.{ReadsFrom, blank, refused, taken, take_token, ReadAs}
+use Rattle.tb_sexp.specs.calls.Reading.{Refuses, finish}
+use Rattle.tb_sexp.specs.calls.Runs.{ReadsFrom, blank, refused, taken, take_token, ReadAs}
 use Rattle.tb_sexp.specs.Tree.{Tree}
 
 pub read_as : (r : Result (List Tree) ReadRefusal) (P : Result (List Tree) ReadRefusal → Type 0) → P r → ReadAs r P

@@ -3,7 +3,8 @@ use Rattle.std.proofs.Common.{ℕ, suc, ◌+◌, ◌≤◌, Bool, true, false, c
 use Rattle.std.specs.Prelude.{◌==◌}
 use Rattle.std.proofs.lemmas.List.{length-take-le}
 use Rattle.tb_prim.specs.declared.place.Place.{Place}
-use Rattle.tb_sexp.specs.Places.{HasRoom, behind, behind_all}
+use Rattle.tb_sexp.specs.calls.Scanning.{HasRoom}
+use Rattle.tb_sexp.specs.Places.{behind, behind_all}
 
 room-by : (p : Place) (test : Bool) (n : ℕ) → HasRoom p (n + 1) → HasRoom (cond test (record { library = p.library; line = p.line + 1; column = 1 }) (record { library = p.library; line = p.line; column = p.column + 1 })) n
 room-by p true n h = let a = h.lines in let b = h.columns in record { lines = omega arith; columns = omega arith }

@@ -6,14 +6,15 @@ use Rattle.std.specs.Char.{digit_value}
 use Rattle.std.specs.Int.{IsInRange}
 use Rattle.std.specs.List.{list_all}
 use Rattle.std.specs.Str.Parse.{AllDigits, digits_value_after}
-use Rattle.std.proofs.lemmas.Bool.{eqb-true, eqb-false, lt-ltb, and_from, cond_both}
+use Rattle.std.proofs.lemmas.Bool.{eqb-true, eqb-false, lt-ltb, ltb-true, and_from, cond_both}
 use Rattle.std.proofs.lemmas.Fmt.{decimal_is_IsNumeral}
 use Rattle.std.proofs.lemmas.Str.{digit_value_digit}
 use Rattle.std.proofs.lemmas.Str.Parse.{digit_from_value}
+use Rattle.tb_prim.specs.Fixnums.{is_fixnum}
 use Rattle.tb_sexp.specs.declared.token.Token.TheVariants as token
-use Rattle.tb_sexp.specs.Numbers.{are_digits, digit_of, value_from, value_of, signed, fits_fixnum}
+use Rattle.tb_sexp.specs.Numbers.{are_digits, digit_of, value_from, value_of, signed}
 use Rattle.tb_sexp.specs.Printing.{printed_bytes, printed_character}
-use Rattle.tb_sexp.specs.ReadData.{IsFixnum, IsReadName}
+use Rattle.tb_sexp.specs.ReadData.{IsReadName}
 use Rattle.tb_sexp.specs.Tokens.{Characters, no_more, plain, escaped, decimal as no_prefix, unsigned, minus, numeral, Spells, number, name, one_byte, space, newline, text}
 
 -- digits as the number's text has them, and as they are read
@@ -41,14 +42,16 @@ decimal_value : (n : ℕ) → n < 2 ^ 64 → value_of 10 (decimal n) ≡ n
 decimal_value n h = let is = decimal_is_IsNumeral n h in digits_valued 0 (decimal n) is.0.1 ∙ is.1
 
 -- a number
-pub fixnum_spelled : (z : ℤ) → IsFixnum z → Spells (signed_decimal z) (token.Fix z)
+pub fixnum_spelled : (z : ℤ) → is_fixnum z ≡ true → Spells (signed_decimal z) (token.Fix z)
 fixnum_spelled (pos n) h =
+    let small = ltb-true n (2 ^ 29) h in
     let value = decimal_value n (omega arith) in
-    let fits : fits_fixnum false (value_of 10 (decimal n)) ≡ true = rw value (lt-ltb n (2 ^ 29) h) in
+    let fits : is_fixnum (signed false (value_of 10 (decimal n))) ≡ true = rw value h in
     subst (λ m. Spells (decimal n) (token.Fix (pos m))) value (number (numeral no_prefix unsigned (decimal_digits n (omega arith))) fits)
 fixnum_spelled (negsuc n) h =
+    let small = ltb-true n (2 ^ 29) h in
     let value = decimal_value (suc n) (omega arith) in
-    let fits : fits_fixnum true (value_of 10 (decimal (suc n))) ≡ true = rw value (lt-ltb (suc n) (2 ^ 29 + 1) (omega arith)) in
+    let fits : is_fixnum (signed true (value_of 10 (decimal (suc n)))) ≡ true = rw value h in
     subst (λ m. Spells (45 ∷ decimal (suc n)) (token.Fix (signed true m))) value (number (numeral no_prefix minus (decimal_digits (suc n) (omega arith))) fits)
 
 -- a character

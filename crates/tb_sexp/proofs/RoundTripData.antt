@@ -6,11 +6,12 @@ use Rattle.tb_prim.specs.declared.place.Place.{Place}
 use Rattle.tb_sexp.specs.declared.token.Token.{Token}
 use Rattle.tb_sexp.specs.declared.token.Token.TheVariants as token
 use Rattle.tb_sexp.specs.Blanks.{closed, nothing}
-use Rattle.tb_sexp.specs.Frames.{list_of, dotted, dotted_with}
+use Rattle.tb_sexp.specs.ListShapes.{list_of, dotted, dotted_with}
 use Rattle.tb_sexp.specs.Grammar.{Placed, placed, Atom, of_bool, of_fix, of_char, of_str, of_name, IsDatum, an_atom, a_mark, a_list, a_dotted_list, a_vector, AreData, no_data, more_data}
 use Rattle.tb_sexp.specs.Places.{behind_all, text_start}
 use Rattle.tb_sexp.specs.Printing.{printed, printed_all, printed_truth}
-use Rattle.tb_sexp.specs.ReadData.{is_list, IsRead, read_nil, read_truth, read_fixnum, read_character, read_string, read_name, read_list, read_dotted, read_vector, AreRead, no_read, more_read, unplaced, unplaced_shape, unplaced_all, SameData, ReadsBack}
+use Rattle.tb_sexp.specs.DatumRules.{is_list}
+use Rattle.tb_sexp.specs.ReadData.{IsRead, read_nil, read_truth, read_fixnum, read_character, read_string, read_name, read_list, read_dotted, read_vector, AreRead, no_read, more_read, unplaced, unplaced_shape, unplaced_all, SameData, ReadsBack}
 use Rattle.tb_sexp.specs.Texts.{Begins, no_tokens, IsText}
 use Rattle.tb_sexp.specs.Tokens.{Spells, EndsWord, EndsAt, open_list, open_vector, close, dot, truth, falsity}
 use Rattle.tb_sexp.specs.Tree.{Tree, At, Shape, Nil, Truth, Fixnum, Character, String, Name, Proper, Dotted, Vector, Trees, none, more}

@@ -5,8 +5,7 @@ use Rattle.std.specs.Char.{to_ascii_lowercase}
 use Rattle.std.specs.List.{list_all}
 use Rattle.std.proofs.lemmas.Bool.{both_ways, ltb-true, ltb-false, le-ltb, or_cases, or_right, and_parts, and_from, cond_both, cond-true, cond-false, agree_below, agree_below_at}
 use Rattle.std.proofs.lemmas.List.{length-map}
-use Rattle.tb_sexp.specs.Bytes.{is_initial, is_subsequent, is_identifier, is_word}
-use Rattle.tb_sexp.specs.Lexing.{folded}
+use Rattle.tb_sexp.specs.Bytes.{is_initial, is_subsequent, is_identifier, is_word, folded}
 use Rattle.tb_sexp.specs.ReadData.{IsReadName}
 use Rattle.tb_sexp.proofs.TokensWords.{identifier_of}
 

@@ -1,20 +1,20 @@
 -- The data that a text spells are data that reading gives.
-use Rattle.std.proofs.Common.{◌≡◌, ◌≢◌, ℕ, zero, suc, ◌+◌, ◌<◌, ◌≤◌, ◌^◌, Bool, true, false, List, [], ◌∷◌, ◌++◌, length, Some, None, refl, subst, arith}
+use Rattle.std.proofs.Common.{◌≡◌, ◌≢◌, ℕ, suc, ◌<◌, ◌≤◌, Bool, true, List, [], ◌∷◌, ◌++◌, length, Some, None, refl, subst, arith}
 use Rattle.std.specs.Prelude.{◌==◌}
 use Rattle.std.specs.List.{All, AllByRecursion}
-use Rattle.std.proofs.lemmas.Bool.{ltb-true, cond_both}
+use Rattle.std.proofs.lemmas.Bool.{cond_both}
 use Rattle.std.proofs.lemmas.List.Elements.{All-from_recursion}
 use Rattle.std.proofs.lemmas.Option.{same_Some}
 use Rattle.tb_prim.specs.declared.place.Place.{Place}
+use Rattle.tb_prim.specs.Fixnums.{is_fixnum}
 use Rattle.tb_sexp.specs.declared.token.Mark.{Mark}
 use Rattle.tb_sexp.specs.declared.token.Mark.TheVariants.{Quote, Quasiquote, Unquote, UnquoteSplicing}
 use Rattle.tb_sexp.specs.declared.token.Token.{Token}
 use Rattle.tb_sexp.specs.declared.token.Token.TheVariants as token
-use Rattle.tb_sexp.specs.Frames.{name_of_mark, list_of, front_of, dotted}
+use Rattle.tb_sexp.specs.ListShapes.{name_of_mark, list_of, front_of, dotted}
 use Rattle.tb_sexp.specs.Grammar.{Placed, placed, Atom, of_bool, of_fix, of_char, of_str, of_name, IsDatum, an_atom, a_mark, a_list, a_dotted_list, a_vector, AreData, no_data, more_data}
-use Rattle.tb_sexp.specs.Lexing.{escaped_of}
-use Rattle.tb_sexp.specs.Numbers.{signed, fits_fixnum}
-use Rattle.tb_sexp.specs.ReadData.{AreBytes, IsFixnum, IsReadName, IsRead, read_nil, read_truth, read_fixnum, read_character, read_string, read_name, read_list, read_dotted, read_vector, AreRead, no_read, more_read}
+use Rattle.tb_sexp.specs.Bytes.{escaped_of}
+use Rattle.tb_sexp.specs.ReadData.{AreBytes, IsReadName, IsRead, read_nil, read_truth, read_fixnum, read_character, read_string, read_name, read_list, read_dotted, read_vector, AreRead, no_read, more_read}
 use Rattle.tb_sexp.specs.Texts.{Begins, no_tokens, one_token, IsText}
 use Rattle.tb_sexp.specs.Tokens.{Characters, no_more, plain, escaped, Spells, open_list, open_vector, close, quote, quasiquote, unquote, splicing, dot, truth, falsity, number, name, one_byte, space, newline, text}
 use Rattle.tb_sexp.specs.Tree.{Tree, At, Shape, Trees}
@@ -39,18 +39,13 @@ TokenRead token.Close = Unit {0}
 TokenRead (token.Mark m) = Unit {0}
 TokenRead token.Dot = Unit {0}
 TokenRead (token.Bool b) = Unit {0}
-TokenRead (token.Fix z) = IsFixnum z
+TokenRead (token.Fix z) = is_fixnum z ≡ true
 TokenRead (token.Char c) = c < 256
 TokenRead (token.Str s) = AreBytes s × (length s ≤ 65535)
 TokenRead (token.Name s) = IsReadName s
 
 abbrev PlacedRead : Placed → Type 0
 PlacedRead x = TokenRead x.token
-
-fixnum_read : (negative : Bool) (n : ℕ) → fits_fixnum negative n ≡ true → IsFixnum (signed negative n)
-fixnum_read false n h = ltb-true n (2 ^ 29) h
-fixnum_read true zero h = omega arith
-fixnum_read true (suc n) h = let small = ltb-true (suc n) (2 ^ 29 + 1) h in omega arith
 
 escape_read : (b c : ℕ) → escaped_of b ≡ Some c → c < 256
 escape_read b c =
@@ -78,7 +73,7 @@ token_read splicing h = tt
 token_read dot h = tt
 token_read (truth e) h = tt
 token_read (falsity e) h = tt
-token_read (number {negative = negative} num fits) h = fixnum_read negative _ fits
+token_read (number num fits) h = fits
 token_read (name {w} is short) h = folded_name w is short
 token_read one_byte h = h.1.1.0
 token_read (space e) h = omega arith

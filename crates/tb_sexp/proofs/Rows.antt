@@ -8,8 +8,8 @@ use Rattle.tb_sexp.specs.declared.datum.Node.TheFolds.{fold-roll-Node, fold_out-
 use Rattle.tb_sexp.specs.declared.datum.Node.TheOpen.{Node-F}
 use Rattle.tb_sexp.specs.declared.datum.Node.TheVariants as node
 use Rattle.tb_sexp.specs.declared.datum.Node.TheVariants.{rolls-List}
-use Rattle.tb_sexp.specs.Frames.{dotted, front_of}
-use Rattle.tb_sexp.specs.Tails.{ended}
+use Rattle.tb_sexp.specs.ListShapes.{dotted, front_of}
+use Rattle.tb_sexp.specs.calls.Tails.{ended}
 use Rattle.tb_sexp.specs.Tree.{Tree, At, Shape, Trees, more}
 use Rattle.tb_sexp.specs.View.{trees, view, view_in, view_at, view_node}
 

@@ -10,13 +10,15 @@ use Rattle.tb_sexp.specs.declared.token.Fault.{Fault}
 use Rattle.tb_sexp.specs.declared.refusal.ReadRefusal.{ReadRefusal}
 use Rattle.tb_sexp.specs.declared.refusal.ReadRefusal.TheVariants.{Syntax}
 use Rattle.tb_sexp.specs.Blanks.{Blank, BlankEnd}
-use Rattle.tb_sexp.specs.Bytes.{blanks}
-use Rattle.tb_sexp.specs.Frames.{Frame, State}
-use Rattle.tb_sexp.specs.Grammar.{Placed, placed, of_bool, CanGoOn, CanGoOnSomehow, EndsWith, Reaches, start, one_more}
-use Rattle.tb_sexp.specs.Lexing.{token_at}
+use Rattle.tb_sexp.specs.calls.Scanning.{blanks}
+use Rattle.tb_sexp.specs.calls.Frames.{Frame, State}
+use Rattle.tb_sexp.specs.Grammar.{Placed, placed, of_bool, CanGoOn, CanGoOnSomehow, EndsWith}
+use Rattle.tb_sexp.specs.calls.Reached.{Reaches, start, one_more}
+use Rattle.tb_sexp.specs.calls.Lexing.{token_at}
 use Rattle.tb_sexp.specs.Places.{text_start, behind_all}
-use Rattle.tb_sexp.specs.Reading.{takes_datum, accept, failed, refusal_of}
-use Rattle.tb_sexp.specs.Runs.{with_size, with_token, ReadsFrom, blank, refused, taken, nothing}
+use Rattle.tb_sexp.specs.calls.Reading.{takes_datum, accept, failed}
+use Rattle.tb_sexp.specs.Faults.{refusal_of}
+use Rattle.tb_sexp.specs.calls.Runs.{with_size, with_token, ReadsFrom, blank, refused, taken, nothing}
 use Rattle.tb_sexp.specs.Texts.{Begins, no_tokens, one_token, IsText, StandsBefore, NextToken, IsMarkAlone, mark_alone, IsRefused, no_front, a_mark_alone, too_deep, faulty, out_of_place, unclosed}
 use Rattle.tb_sexp.specs.Tokens.{Spells, EndsAt, TokenAt, Faulty}
 use Rattle.tb_sexp.specs.Tree.{Tree, Truth}

@@ -6,12 +6,12 @@ use Rattle.tb_sexp.specs.declared.token.Token.{Token}
 use Rattle.tb_sexp.specs.declared.token.Fault.{Fault}
 use Rattle.tb_sexp.specs.declared.refusal.ReadRefusal.{ReadRefusal}
 use Rattle.tb_sexp.specs.Blanks.{BeginsNoBlank}
-use Rattle.tb_sexp.specs.Bytes.{blanks}
-use Rattle.tb_sexp.specs.Frames.{State}
-use Rattle.tb_sexp.specs.Lexing.{token_at}
+use Rattle.tb_sexp.specs.calls.Scanning.{blanks}
+use Rattle.tb_sexp.specs.calls.Frames.{State}
+use Rattle.tb_sexp.specs.calls.Lexing.{token_at}
 use Rattle.tb_sexp.specs.Places.{text_start, behind_all}
-use Rattle.tb_sexp.specs.Reading.{accept, failed, finish}
-use Rattle.tb_sexp.specs.Runs.{with_size, with_token, take_token, ReadsFrom, blank, refused, taken, nothing}
+use Rattle.tb_sexp.specs.calls.Reading.{accept, failed, finish}
+use Rattle.tb_sexp.specs.calls.Runs.{with_size, with_token, take_token, ReadsFrom, blank, refused, taken, nothing}
 use Rattle.tb_sexp.specs.Texts.{IsText, IsRefused}
 use Rattle.tb_sexp.specs.Tree.{Tree}
 use Rattle.tb_sexp.proofs.TextsFound.{Outcome, outcome}

@@ -9,11 +9,13 @@ use Rattle.tb_sexp.specs.declared.token.Fault.{Fault}
 use Rattle.tb_sexp.specs.declared.refusal.ReadRefusal.{ReadRefusal}
 use Rattle.tb_sexp.specs.declared.refusal.ReadRefusal.TheVariants.{Syntax, Unclosed}
 use Rattle.tb_sexp.specs.Blanks.{Blank, BlankEnd}
-use Rattle.tb_sexp.specs.Frames.{State}
-use Rattle.tb_sexp.specs.Grammar.{Placed, placed, of_bool, AreData, CanGoOn, OpenedLast, Reaches, start, one_more}
+use Rattle.tb_sexp.specs.calls.Frames.{State}
+use Rattle.tb_sexp.specs.Grammar.{Placed, placed, of_bool, AreData, CanGoOn, OpenedLast}
+use Rattle.tb_sexp.specs.calls.Reached.{Reaches, start, one_more}
 use Rattle.tb_sexp.specs.Places.{text_start, behind_all}
-use Rattle.tb_sexp.specs.Reading.{takes_datum, accept, failed, refusal_of, finish}
-use Rattle.tb_sexp.specs.Runs.{ReadsFrom, nothing}
+use Rattle.tb_sexp.specs.calls.Reading.{takes_datum, accept, failed, finish}
+use Rattle.tb_sexp.specs.Faults.{refusal_of}
+use Rattle.tb_sexp.specs.calls.Runs.{ReadsFrom, nothing}
 use Rattle.tb_sexp.specs.Texts.{Begins, no_tokens, one_token, IsText, StandsBefore, NextToken, TakesDatum, EndsInMark, IsMarkAlone, mark_alone, IsRefused, no_front, a_mark_alone, too_deep, faulty, out_of_place, unclosed}
 use Rattle.tb_sexp.specs.Tokens.{Spells, EndsAt, Faulty}
 use Rattle.tb_sexp.specs.Tree.{Tree, Truth}

@@ -5,7 +5,7 @@ use Rattle.std.specs.List.{All}
 use Rattle.tb_sexp.specs.declared.refusal.ReadRefusal.{ReadRefusal}
 use Rattle.tb_sexp.specs.declared.refusal.ReadRefusal.TheVariants.{Syntax, Unclosed, TooDeep, TooLong, TooBig, NoMemory}
 use Rattle.tb_sexp.specs.ReadData.{AreBytes, IsRead}
-use Rattle.tb_sexp.specs.Runs.{Reads, shown}
+use Rattle.tb_sexp.specs.calls.Runs.{Reads, shown}
 use Rattle.tb_sexp.specs.Texts.{IsText, RefusedAs}
 use Rattle.tb_sexp.specs.Tree.{Tree}
 use Rattle.tb_sexp.proofs.RoundTripRead.{read_data}

@@ -7,12 +7,12 @@ use Rattle.tb_sexp.specs.declared.token.Token.{Token}
 use Rattle.tb_sexp.specs.declared.token.Fault.{Fault}
 use Rattle.tb_sexp.specs.declared.refusal.ReadRefusal.{ReadRefusal}
 use Rattle.tb_sexp.specs.Blanks.{Blank, BlankEnd, IsNoBlank, BeginsNoBlank}
-use Rattle.tb_sexp.specs.Bytes.{blanks}
-use Rattle.tb_sexp.specs.Frames.{State}
+use Rattle.tb_sexp.specs.calls.Scanning.{blanks}
+use Rattle.tb_sexp.specs.calls.Frames.{State}
 use Rattle.tb_sexp.specs.Grammar.{Placed, placed, CanGoOn}
 use Rattle.tb_sexp.specs.Places.{text_start, behind, behind_all}
-use Rattle.tb_sexp.specs.Reading.{accept, failed, finish}
-use Rattle.tb_sexp.specs.Runs.{with_size, with_token, take_token, ReadsFrom, blank, refused, taken}
+use Rattle.tb_sexp.specs.calls.Reading.{accept, failed, finish}
+use Rattle.tb_sexp.specs.calls.Runs.{with_size, with_token, take_token, ReadsFrom, blank, refused, taken}
 use Rattle.tb_sexp.specs.Texts.{Begins, no_tokens, one_token, NextToken, levels}
 use Rattle.tb_sexp.specs.Tokens.{Spells, EndsAt, Faulty}
 use Rattle.tb_sexp.specs.Tree.{Tree}

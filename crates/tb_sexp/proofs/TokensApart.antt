@@ -9,7 +9,7 @@ use Rattle.tb_sexp.specs.declared.token.Mark.{Mark}
 use Rattle.tb_sexp.specs.declared.token.Mark.TheVariants.{Quote, Quasiquote, Unquote, UnquoteSplicing}
 use Rattle.tb_sexp.specs.Blanks.{BeginsNoBlank}
 use Rattle.tb_sexp.specs.Bytes.{is_whitespace}
-use Rattle.tb_sexp.specs.Lexing.{token_at}
+use Rattle.tb_sexp.specs.calls.Lexing.{token_at}
 use Rattle.tb_sexp.specs.Tokens.{EndsMark, EndsAt, Spells, TokenAt, HasToken, Spoiled, long_name, big_number, long_string, bad_escape, open_string, open_escape, Faulty, spoiled, no_token}
 use Rattle.tb_sexp.proofs.TokensBytes.{whitespace_of}
 use Rattle.tb_sexp.proofs.TokensFound.{OwnFault, Found, found}

@@ -4,7 +4,8 @@ use Rattle.std.specs.Prelude.{◌==◌}
 use Rattle.std.specs.List.{list_all}
 use Rattle.std.proofs.lemmas.Bool.{eqb-true, eqb-false, ne_eqb, and_parts, and_from, cond_both, cond-true, cond-false, not_from_false}
 use Rattle.tb_sexp.specs.Blanks.{IsLine, Blank, nothing, whitespace, comment, BlankEnd, closed, open_comment, IsNoBlank}
-use Rattle.tb_sexp.specs.Bytes.{is_whitespace, blanks_in, blanks}
+use Rattle.tb_sexp.specs.Bytes.{is_whitespace}
+use Rattle.tb_sexp.specs.calls.Scanning.{blanks_in, blanks}
 use Rattle.tb_sexp.proofs.TokensBytes.{whitespace_of}
 
 -- the rest of a comment, and what stands behind it

@@ -4,8 +4,9 @@ use Rattle.std.specs.Prelude.{◌==◌, nat_lt, codes}
 use Rattle.std.specs.List.{list_any, list_all}
 use Rattle.std.proofs.lemmas.Bool.{false≢true, both_ways, eqb-true, ne_eqb, le-ltb, or_cases, and_parts, cond_both, cond-true, cond-false, false_from_ne_true}
 use Rattle.std.proofs.Math.Seq.{take-append_seam}
-use Rattle.tb_sexp.specs.Bytes.{is_whitespace, is_delimiter, is_initial, is_subsequent, run_length}
-use Rattle.tb_sexp.specs.Lexing.{run}
+use Rattle.tb_sexp.specs.Bytes.{is_whitespace, is_delimiter, is_initial, is_subsequent}
+use Rattle.tb_sexp.specs.calls.Scanning.{run_length}
+use Rattle.tb_sexp.specs.calls.Lexing.{run}
 use Rattle.tb_sexp.specs.Numbers.{digit_of}
 use Rattle.tb_sexp.specs.Tokens.{EndsWord}
 

@@ -5,14 +5,16 @@ use Rattle.std.specs.Char.{to_ascii_lowercase}
 use Rattle.std.proofs.lemmas.Bool.{eqb-true, eqb-false, ltb-true, ltb-false, cond_both}
 use Rattle.std.proofs.lemmas.List.{nil_from_length}
 use Rattle.std.proofs.lemmas.Slice.Eq.{bytes_eq-Decides}
+use Rattle.tb_prim.specs.Fixnums.{is_fixnum}
 use Rattle.tb_sexp.specs.declared.token.Token.{Token}
 use Rattle.tb_sexp.specs.declared.token.Token.TheVariants as token
 use Rattle.tb_sexp.specs.declared.token.Mark.TheVariants.{Quote, Quasiquote, Unquote, UnquoteSplicing}
 use Rattle.tb_sexp.specs.declared.token.Fault.{Fault}
 use Rattle.tb_sexp.specs.declared.token.Fault.TheVariants.{Syntax, LongName, BigNumber, LongString, BadEscape, OpenString}
-use Rattle.tb_sexp.specs.Bytes.{is_identifier, run_length}
-use Rattle.tb_sexp.specs.Lexing.{atom_at, atom_of, base_of, based_of, character_at, character_of, comma_at, escaped_of, fixnum_of, folded, hash_at, hashed_of, is_folded, name_of, named_of, number_of, on_some, run, sized, string_from, string_at, token_at, truth_of}
-use Rattle.tb_sexp.specs.Numbers.{are_digits, digits_of, is_negative, is_number, value_of, signed, fits_fixnum}
+use Rattle.tb_sexp.specs.Bytes.{is_identifier, escaped_of, folded}
+use Rattle.tb_sexp.specs.calls.Scanning.{run_length}
+use Rattle.tb_sexp.specs.calls.Lexing.{atom_at, atom_of, based_of, character_at, character_of, comma_at, fixnum_of, hash_at, hashed_of, is_folded, name_of, named_of, number_of, on_some, run, sized, string_from, string_at, token_at, truth_of, digits_of, is_negative, is_number}
+use Rattle.tb_sexp.specs.Numbers.{base_of, are_digits, value_of, signed}
 use Rattle.tb_sexp.specs.Tokens.{Characters, no_more, plain, escaped, Prefix, decimal, based, Sign, unsigned, plus, minus, IsNumeral, numeral, EndsWord, EndsAt, Spells, open_list, open_vector, close, quote, quasiquote, unquote, splicing, dot, truth, falsity, number, name, one_byte, space, newline, text, TokenAt, Spoiled, long_name, big_number, long_string, bad_escape, open_string, open_escape}
 use Rattle.tb_sexp.proofs.TokensBytes.{run_ends, run_size}
 
@@ -45,7 +47,7 @@ sized_found w rest bs (Err f) n e size h = fault_moved (w ++ rest) bs f e h
 -- numbers
 fixnum_found : {w ds : List ℕ} {base : ℕ} {negative : Bool} → IsNumeral w base negative ds → (rest : List ℕ) → EndsWord rest → WordFound w rest (fixnum_of negative (value_of base ds))
 fixnum_found {w} {ds} {base} {negative} num rest ends =
-    cond_both (fits_fixnum negative (value_of base ds)) (Ok (token.Fix (signed negative (value_of base ds)))) (Err BigNumber) (WordFound w rest)
+    cond_both (is_fixnum (signed negative (value_of base ds))) (Ok (token.Fix (signed negative (value_of base ds)))) (Err BigNumber) (WordFound w rest)
     (λ e. (number num e, ends)) (λ e. big_number rest num e ends)
 
 -- the sign in front

@@ -8,9 +8,10 @@ use Rattle.std.proofs.lemmas.Bool.Decides.{nat_tests}
 use Rattle.std.proofs.lemmas.Option.{same_Some}
 use Rattle.tb_sexp.specs.declared.token.Token.TheVariants as token
 use Rattle.tb_sexp.specs.declared.token.Fault.TheVariants.{Syntax}
-use Rattle.tb_sexp.specs.Bytes.{is_delimiter, is_initial, is_subsequent, is_identifier, is_word, run_length}
-use Rattle.tb_sexp.specs.Lexing.{base_of, based_of, character_at, fixnum_of, hashed_of, name_of, number_of, run, sized, token_at, truth_of}
-use Rattle.tb_sexp.specs.Numbers.{are_digits, digit_of, digits_of, is_negative, value_of}
+use Rattle.tb_sexp.specs.Bytes.{is_delimiter, is_initial, is_subsequent, is_identifier, is_word}
+use Rattle.tb_sexp.specs.calls.Scanning.{run_length}
+use Rattle.tb_sexp.specs.Numbers.{base_of, are_digits, digit_of, value_of}
+use Rattle.tb_sexp.specs.calls.Lexing.{based_of, character_at, fixnum_of, hashed_of, name_of, number_of, run, sized, token_at, truth_of, digits_of, is_negative}
 use Rattle.tb_sexp.specs.Tokens.{EndsWord, Prefix, decimal, based, Sign, unsigned, plus, minus, IsNumeral, numeral}
 use Rattle.tb_sexp.proofs.TokensBytes.{EachOf, delimiter_of, digit_clear, apart_by, Clear, clear_all, run_passed, run_taken}
 use Rattle.tb_sexp.proofs.TokensWords.{IsPlain, IsRun, run_only}

@@ -4,14 +4,15 @@ use Rattle.std.specs.Prelude.{◌==◌, nat_lt, codes, bytes_eq}
 use Rattle.std.specs.Char.{to_ascii_lowercase}
 use Rattle.std.proofs.lemmas.Bool.{both_ways, lt-ltb, le-ltb, ne_eqb, eq-eqb, cond-true, cond-false, false_from_ne_true}
 use Rattle.std.proofs.lemmas.List.{length-map}
+use Rattle.tb_prim.specs.Fixnums.{is_fixnum}
 use Rattle.tb_sexp.specs.declared.token.Token.{Token}
 use Rattle.tb_sexp.specs.declared.token.Token.TheVariants as token
 use Rattle.tb_sexp.specs.declared.token.Mark.TheVariants.{Unquote, UnquoteSplicing}
 use Rattle.tb_sexp.specs.declared.token.Fault.{Fault}
 use Rattle.tb_sexp.specs.declared.token.Fault.TheVariants.{Syntax, LongName, BigNumber, LongString, BadEscape}
-use Rattle.tb_sexp.specs.Bytes.{is_delimiter}
-use Rattle.tb_sexp.specs.Lexing.{character_of, escaped_of, folded, hashed_of, named_of, on_some, sized, string_from, token_at}
-use Rattle.tb_sexp.specs.Numbers.{value_of, signed, fits_fixnum}
+use Rattle.tb_sexp.specs.Bytes.{is_delimiter, escaped_of, folded}
+use Rattle.tb_sexp.specs.calls.Lexing.{character_of, hashed_of, named_of, on_some, sized, string_from, token_at}
+use Rattle.tb_sexp.specs.Numbers.{value_of, signed}
 use Rattle.tb_sexp.specs.Tokens.{Characters, EndsWord, NoAt, EndsAt, Spells, open_list, open_vector, close, quote, quasiquote, unquote, splicing, dot, truth, falsity, number, name, one_byte, space, newline, text, Spoiled, long_name, big_number, long_string, bad_escape, open_string, open_escape}
 use Rattle.tb_sexp.proofs.TokensBytes.{delimiter_of, Clear, run_passed, run_taken}
 use Rattle.tb_sexp.proofs.TokensNumbers.{hashed_only, numeral_only}
@@ -93,7 +94,7 @@ spelled_only dot rest ends = run_only (46 ∷ []) rest ((refl, (refl, (refl, (re
 spelled_only (truth {b} h) rest ends = letter_only b 116 true rest h (λ e. omega arith) (λ e. omega arith) refl ends (truth_hashed b h)
 spelled_only (falsity {b} h) rest ends = letter_only b 102 false rest h (λ e. omega arith) (λ e. omega arith) refl ends (falsity_hashed b h)
 spelled_only (number {w} {ds} {base} {negative} num fits) rest ends =
-    numeral_only num rest ends ∙ ap (λ r. sized r (length w)) (cond-true (fits_fixnum negative (value_of base ds)) (Ok (token.Fix (signed negative (value_of base ds)))) (Err BigNumber) fits)
+    numeral_only num rest ends ∙ ap (λ r. sized r (length w)) (cond-true (is_fixnum (signed negative (value_of base ds))) (Ok (token.Fix (signed negative (value_of base ds)))) (Err BigNumber) fits)
 spelled_only (name {w} h short) rest ends =
     identifier_only w rest h ends ∙ ap (λ r. sized r (length w)) (cond-false (nat_lt 255 (length w)) (Err LongName) (Ok (token.Name (folded w))) (le-ltb 255 (length w) short))
 spelled_only (one_byte {b}) rest ends = character_only b [] rest tt ends
@@ -119,7 +120,7 @@ pub spoiled_only : {bs : List ℕ} {f : Fault} → Spoiled bs f → token_at bs 
 spoiled_only (long_name w rest h long ends) =
     identifier_only w rest h ends ∙ ap (λ r. sized r (length w)) (cond-true (nat_lt 255 (length w)) (Err LongName) (Ok (token.Name (folded w))) (lt-ltb 255 (length w) long))
 spoiled_only (big_number {w} {ds} {base} {negative} rest num big ends) =
-    numeral_only num rest ends ∙ ap (λ r. sized r (length w)) (cond-false (fits_fixnum negative (value_of base ds)) (Ok (token.Fix (signed negative (value_of base ds)))) (Err BigNumber) big)
+    numeral_only num rest ends ∙ ap (λ r. sized r (length w)) (cond-false (is_fixnum (signed negative (value_of base ds))) (Ok (token.Fix (signed negative (value_of base ds)))) (Err BigNumber) big)
 spoiled_only (long_string rest h long) = characters_long h [] 0 rest (omega arith) (omega arith)
 spoiled_only (bad_escape b rest h few e) = bad_only b rest h few e
 spoiled_only (open_string {w} h few) = ap (λ bs. token_at (34 ∷ bs)) (sym (append-nil w)) ∙ string_put h [] few

@@ -6,7 +6,8 @@ use Rattle.tb_sexp.specs.declared.token.Token.{Token}
 use Rattle.tb_sexp.specs.declared.token.Token.TheVariants as token
 use Rattle.tb_sexp.specs.declared.token.Fault.{Fault}
 use Rattle.tb_sexp.specs.declared.token.Fault.TheVariants.{LongString, BadEscape}
-use Rattle.tb_sexp.specs.Lexing.{escaped_of, on_some, string_from, token_at}
+use Rattle.tb_sexp.specs.Bytes.{escaped_of}
+use Rattle.tb_sexp.specs.calls.Lexing.{on_some, string_from, token_at}
 use Rattle.tb_sexp.specs.Tokens.{Characters, no_more, plain, escaped}
 
 -- what is answered for one more character

@@ -7,7 +7,7 @@ use Rattle.std.proofs.lemmas.Slice.Eq.{bytes_eq-Decides}
 use Rattle.tb_sexp.specs.declared.token.Token.TheVariants as token
 use Rattle.tb_sexp.specs.declared.token.Fault.TheVariants.{Syntax}
 use Rattle.tb_sexp.specs.Bytes.{is_initial, is_subsequent, is_identifier, is_word}
-use Rattle.tb_sexp.specs.Lexing.{atom_at, atom_of, name_of, number_of, run, sized, token_at}
+use Rattle.tb_sexp.specs.calls.Lexing.{atom_at, atom_of, name_of, number_of, run, sized, token_at}
 use Rattle.tb_sexp.specs.Tokens.{EndsWord}
 use Rattle.tb_sexp.proofs.TokensBytes.{EachOf, subsequent_clear, initial_clear, apart_by, Clear, clear_all, run_passed, run_taken}
 

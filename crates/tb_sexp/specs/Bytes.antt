@@ -1,7 +1,7 @@
 -- The kinds of bytes that tokens are made of.
-use Rattle.std.specs.Prelude.{ℕ, suc, ◌==◌, ◌||◌, ◌&&◌, not, Bool, false, cond, List, [], ◌∷◌, codes, bytes_eq}
+use Rattle.std.specs.Prelude.{ℕ, ◌==◌, ◌||◌, ◌&&◌, Bool, false, cond, List, [], ◌∷◌, map, codes, bytes_eq, Option, Some, None}
 use Rattle.std.specs.List.{list_any, list_all}
-use Rattle.std.specs.Char.{is_ascii_alphabetic, is_ascii_digit}
+use Rattle.std.specs.Char.{is_ascii_alphabetic, is_ascii_digit, to_ascii_lowercase}
 
 -- space, tab, newline, carriage return and form feed
 abbrev pub is_whitespace : ℕ → Bool
@@ -27,17 +27,11 @@ is_word (b ∷ bs) = is_initial b && list_all is_subsequent bs
 abbrev pub is_identifier : List ℕ → Bool
 is_identifier bs = bytes_eq bs (codes "+") || (bytes_eq bs (codes "-") || (bytes_eq bs (codes "...") || is_word bs))
 
--- how many bytes stand before the first delimiter
-abbrev pub run_length : List ℕ → ℕ
-run_length [] = 0
-run_length (b ∷ bs) = cond (is_delimiter b) 0 (suc (run_length bs))
+-- letters are folded to lower case
+abbrev pub folded : List ℕ → List ℕ
+folded bs = map to_ascii_lowercase bs
 
--- how many bytes of whitespace and comments stand in front; a comment goes from `;` (59) to the end of the line
-abbrev pub blanks_in : Bool → List ℕ → ℕ
-blanks_in in_comment [] = 0
-blanks_in in_comment (b ∷ bs) =
-    cond in_comment (suc (blanks_in (not (b == 10)) bs))
-    (cond (b == 59) (suc (blanks_in (not (b == 10)) bs)) (cond (is_whitespace b) (suc (blanks_in false bs)) 0))
-
-abbrev pub blanks : List ℕ → ℕ
-blanks bs = blanks_in false bs
+-- the character that stands for itself or for another behind a backslash
+abbrev pub escaped_of : ℕ → Option ℕ
+escaped_of b =
+    cond (b == 34) (Some 34) (cond (b == 92) (Some 92) (cond (b == 110) (Some 10) (cond (b == 116) (Some 9) None)))

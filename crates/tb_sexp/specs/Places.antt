@@ -1,5 +1,5 @@
 -- Where a byte stands in a text.
-use Rattle.std.specs.Prelude.{ℕ, ◌+◌, ◌<◌, ◌^◌, ◌==◌, Bool, cond, List, [], ◌∷◌}
+use Rattle.std.specs.Prelude.{ℕ, ◌+◌, ◌==◌, Bool, cond, List, [], ◌∷◌}
 use Rattle.tb_prim.specs.declared.place.Place.{Place}
 
 -- the first byte of a text
@@ -13,8 +13,3 @@ behind p b = cond (b == 10) (record { library = p.library; line = p.line + 1; co
 abbrev pub behind_all : Place → List ℕ → Place
 behind_all p [] = p
 behind_all p (b ∷ bs) = behind_all (behind p b) bs
-
--- places behind so many bytes more have numbers of 32 bits
-pub record HasRoom (p : Place) (n : ℕ) : Type 0 where
-  pub lines : p.line + n < 2 ^ 32
-  pub columns : p.column + n + 1 < 2 ^ 32

@@ -1,9 +1,10 @@
 -- The data that reading gives, data apart from their places, and texts that spell a datum again.
-use Rattle.std.specs.Prelude.{ℕ, ℤ, pos, negsuc, suc, ◌≡◌, ◌<◌, ◌≤◌, ◌^◌, Bool, true, false, List, [], ◌∷◌, length}
+use Rattle.std.specs.Prelude.{ℕ, ℤ, suc, ◌≡◌, ◌<◌, ◌≤◌, Bool, true, false, List, [], ◌∷◌, length}
 use Rattle.std.specs.List.{AllByRecursion}
 use Rattle.tb_prim.specs.declared.place.Place.{Place}
-use Rattle.tb_sexp.specs.Bytes.{is_identifier}
-use Rattle.tb_sexp.specs.Lexing.{folded}
+use Rattle.tb_prim.specs.Fixnums.{is_fixnum}
+use Rattle.tb_sexp.specs.Bytes.{is_identifier, folded}
+use Rattle.tb_sexp.specs.DatumRules.{is_list}
 use Rattle.tb_sexp.specs.Places.{text_start}
 use Rattle.tb_sexp.specs.Texts.{IsText}
 use Rattle.tb_sexp.specs.Tree.{Tree, At, Shape, Nil, Truth, Fixnum, Character, String, Name, Proper, Dotted, Vector, Trees, none, more}
@@ -12,35 +13,18 @@ use Rattle.tb_sexp.specs.Tree.{Tree, At, Shape, Nil, Truth, Fixnum, Character, S
 abbrev pub AreBytes : List ℕ → Type 0
 AreBytes bs = AllByRecursion (λ b. b < 256) bs
 
--- -2^29 to 2^29 - 1; `negsuc n` is -(n + 1)
-abbrev pub IsFixnum : ℤ → Type 0
-IsFixnum (pos n) = n < 2 ^ 29
-IsFixnum (negsuc n) = n < 2 ^ 29
-
 -- an identifier of at most 255 bytes, without upper case
 pub record IsReadName (s : List ℕ) : Type 0 where
   pub identifier : is_identifier s ≡ true
   pub short : length s ≤ 255
   pub lower : folded s ≡ s
 
--- a list, dotted or not, or the empty list
-abbrev pub is_list : Shape → Bool
-is_list Nil = true
-is_list (Truth b) = false
-is_list (Fixnum n) = false
-is_list (Character c) = false
-is_list (String s) = false
-is_list (Name s alias) = false
-is_list (Proper ds) = true
-is_list (Dotted ds d) = true
-is_list (Vector ds) = false
-
 mutual
   -- data that reading gives, in which at most `n` lists and vectors stand inside one another
   pub data IsRead : ℕ → Tree → Type 0 where
     read_nil : {n : ℕ} {p : Place} → IsRead (suc n) (At p Nil)
     read_truth : {n : ℕ} {p : Place} {b : Bool} → IsRead n (At p (Truth b))
-    read_fixnum : {n : ℕ} {p : Place} {z : ℤ} → IsFixnum z → IsRead n (At p (Fixnum z))
+    read_fixnum : {n : ℕ} {p : Place} {z : ℤ} → is_fixnum z ≡ true → IsRead n (At p (Fixnum z))
     read_character : {n : ℕ} {p : Place} {c : ℕ} → c < 256 → IsRead n (At p (Character c))
     read_string : {n : ℕ} {p : Place} {s : List ℕ} → AreBytes s → length s ≤ 65535 → IsRead n (At p (String s))
     read_name : {n : ℕ} {p : Place} {s : List ℕ} → IsReadName s → IsRead n (At p (Name s 0))

@@ -10,7 +10,7 @@ use Rattle.tb_sexp.specs.declared.refusal.ReadRefusal.TheVariants as refusal
 use Rattle.tb_sexp.specs.Blanks.{Blank, BlankEnd, IsNoBlank}
 use Rattle.tb_sexp.specs.Grammar.{Placed, placed, AreData, CanGoOn, CanGoOnSomehow, OpenedLast, EndsWith}
 use Rattle.tb_sexp.specs.Places.{text_start, behind_all}
-use Rattle.tb_sexp.specs.Reading.{refusal_of}
+use Rattle.tb_sexp.specs.Faults.{refusal_of}
 use Rattle.tb_sexp.specs.Tokens.{Spells, EndsAt, Faulty}
 use Rattle.tb_sexp.specs.Tree.{Tree}
 

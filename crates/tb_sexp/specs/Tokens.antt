@@ -1,15 +1,15 @@
 -- The grammar of tokens: what each is spelled by, where it ends, and what is wrong with what is no token.
 use Rattle.std.specs.Prelude.{◌≡◌, ◌≢◌, ℕ, ◌+◌, ◌≤◌, ◌<◌, Bool, true, false, List, [], ◌∷◌, ◌++◌, length, codes, Some, None}
 use Rattle.std.specs.Char.{to_ascii_lowercase}
+use Rattle.tb_prim.specs.Fixnums.{is_fixnum}
 use Rattle.tb_sexp.specs.declared.token.Token.{Token}
 use Rattle.tb_sexp.specs.declared.token.Token.TheVariants as token
 use Rattle.tb_sexp.specs.declared.token.Mark.{Mark}
 use Rattle.tb_sexp.specs.declared.token.Mark.TheVariants.{Quote, Quasiquote, Unquote, UnquoteSplicing}
 use Rattle.tb_sexp.specs.declared.token.Fault.{Fault}
 use Rattle.tb_sexp.specs.declared.token.Fault.TheVariants.{Syntax, LongName, BigNumber, LongString, BadEscape, OpenString}
-use Rattle.tb_sexp.specs.Bytes.{is_delimiter, is_identifier}
-use Rattle.tb_sexp.specs.Lexing.{base_of, escaped_of, folded}
-use Rattle.tb_sexp.specs.Numbers.{are_digits, value_of, signed, fits_fixnum}
+use Rattle.tb_sexp.specs.Bytes.{is_delimiter, is_identifier, escaped_of, folded}
+use Rattle.tb_sexp.specs.Numbers.{base_of, are_digits, value_of, signed}
 
 -- the bytes between the quotes of a string, and the characters that they stand for: no `"` (34), and behind
 -- each backslash (92) a letter that stands for a character
@@ -46,7 +46,7 @@ pub data Spells : List ℕ → Token → Type 0 where
   dot : Spells (codes ".") token.Dot
   truth : {b : ℕ} → to_ascii_lowercase b ≡ 116 → Spells (35 ∷ b ∷ []) (token.Bool true)
   falsity : {b : ℕ} → to_ascii_lowercase b ≡ 102 → Spells (35 ∷ b ∷ []) (token.Bool false)
-  number : {w ds : List ℕ} {base : ℕ} {negative : Bool} → IsNumeral w base negative ds → fits_fixnum negative (value_of base ds) ≡ true →
+  number : {w ds : List ℕ} {base : ℕ} {negative : Bool} → IsNumeral w base negative ds → is_fixnum (signed negative (value_of base ds)) ≡ true →
       Spells w (token.Fix (signed negative (value_of base ds)))
   name : {w : List ℕ} → is_identifier w ≡ true → length w ≤ 255 → Spells w (token.Name (folded w))
   one_byte : {b : ℕ} → Spells (35 ∷ 92 ∷ b ∷ []) (token.Char b)
@@ -102,7 +102,7 @@ HasToken bs = (t : Token) × (n : ℕ) × TokenAt bs t n
 pub data Spoiled : List ℕ → Fault → Type 0 where
   long_name : (w rest : List ℕ) → is_identifier w ≡ true → 255 < length w → EndsWord rest → Spoiled (w ++ rest) LongName
   big_number : {w ds : List ℕ} {base : ℕ} {negative : Bool} (rest : List ℕ) → IsNumeral w base negative ds →
-      fits_fixnum negative (value_of base ds) ≡ false → EndsWord rest → Spoiled (w ++ rest) BigNumber
+      is_fixnum (signed negative (value_of base ds)) ≡ false → EndsWord rest → Spoiled (w ++ rest) BigNumber
   long_string : {w cs : List ℕ} (rest : List ℕ) → Characters w cs → 65535 < length cs → Spoiled (34 ∷ (w ++ rest)) LongString
   bad_escape : {w cs : List ℕ} (b : ℕ) (rest : List ℕ) → Characters w cs → length cs ≤ 65535 → escaped_of b ≡ None →
       Spoiled (34 ∷ (w ++ 92 ∷ b ∷ rest)) (BadEscape (1 + length w))

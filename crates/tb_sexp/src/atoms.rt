@@ -1,6 +1,8 @@
 ghost use Rattle.std.specs.Prelude.{◌≡◌, ◌∷◌, IfOk};
-ghost use Rattle.tb_sexp.specs.Lexing as lexing;
-ghost use Rattle.tb_sexp.specs.Lexing.{Gives, atom_of, base_of, based_of, character_of, hashed_of, name_of, named_of, truth_of};
+ghost use Rattle.tb_sexp.specs.Bytes as bytes;
+ghost use Rattle.tb_sexp.specs.calls.Lexing as lexing;
+ghost use Rattle.tb_sexp.specs.calls.Lexing.{Gives, atom_of, based_of, character_of, hashed_of, name_of, named_of, truth_of};
+ghost use Rattle.tb_sexp.specs.Numbers.{base_of};
 
 use super::numbers::number;
 use super::scan::is_identifier;
@@ -13,7 +15,7 @@ const NAME_BYTES: usize = 255;
 
 /// The bytes with letters folded to lower case.
 fn folded(alloc: Global, run: &[u8]) -> Result<Bytes, NoMemory>
-    ensures { IfOk result (λ text. text ≡ lexing.folded run.now) }
+    ensures { IfOk result (λ text. text ≡ bytes.folded run.now) }
 {
     let lower: Vec<u8> = run.iter().map(|b| b.to_ascii_lowercase()).collect(alloc)?;
     Bytes::new(alloc, lower.as_slice())

@@ -1,7 +1,8 @@
 ghost use Rattle.std.specs.Prelude.{◌≡◌, [], ◌∷◌, ◌++◌, map, IfOk, OnOk};
-ghost use Rattle.tb_sexp.specs.Frames as frames;
-ghost use Rattle.tb_sexp.specs.Frames.{marked, name_of_mark, view_frame, view_state};
-ghost use Rattle.tb_sexp.specs.Tails.{view_tail};
+ghost use Rattle.tb_sexp.specs.calls.Frames as frames;
+ghost use Rattle.tb_sexp.specs.ListShapes.{marked, name_of_mark};
+ghost use Rattle.tb_sexp.specs.calls.Frames.{view_frame, view_state};
+ghost use Rattle.tb_sexp.specs.calls.Tails.{view_tail};
 ghost use Rattle.tb_sexp.specs.Tree.{At, Name};
 ghost use Rattle.tb_sexp.specs.View.{view};
 

@@ -5,10 +5,11 @@ ghost use Rattle.tb_sexp.specs.declared.refusal.ReadRefusal.TheVariants as refus
 ghost use Rattle.tb_sexp.specs.declared.token.Mark.{Mark};
 ghost use Rattle.tb_sexp.specs.declared.token.Token.{Token};
 ghost use Rattle.tb_sexp.specs.declared.token.Token.TheVariants as token;
-ghost use Rattle.tb_sexp.specs.Bytes.{blanks};
-ghost use Rattle.tb_sexp.specs.Frames.{State};
-ghost use Rattle.tb_sexp.specs.Grammar.{AreData, Atom, CanGoOn, CanGoOnSomehow, EndsWith, IsLastMark, OpenedLast, Placed, Reaches, placed};
-ghost use Rattle.tb_sexp.specs.Reading.{accept, finish, takes_datum};
+ghost use Rattle.tb_sexp.specs.calls.Scanning.{blanks};
+ghost use Rattle.tb_sexp.specs.calls.Frames.{State};
+ghost use Rattle.tb_sexp.specs.Grammar.{AreData, Atom, CanGoOn, CanGoOnSomehow, EndsWith, OpenedLast, Placed, placed};
+ghost use Rattle.tb_sexp.specs.calls.Reached.{IsLastMark, Reaches};
+ghost use Rattle.tb_sexp.specs.calls.Reading.{accept, finish, takes_datum};
 ghost use Rattle.tb_sexp.specs.Tree.{Shape, Tree};
 
 /// The rows of tokens that are read without a refusal are the fronts of rows that spell data, and each leads to one

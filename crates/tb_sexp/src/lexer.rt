@@ -1,5 +1,5 @@
 ghost use Rattle.std.specs.Prelude.{◌≡◌, ◌+◌, ◌^◌, ◌<◌, ◌≤◌, IfOk, length};
-ghost use Rattle.tb_sexp.specs.Lexing.{Gives, atom_at, character_at, comma_at, hash_at, sized, token_at};
+ghost use Rattle.tb_sexp.specs.calls.Lexing.{Gives, atom_at, character_at, comma_at, hash_at, sized, token_at};
 
 use super::atoms::{atom, character, hashed};
 use super::scan::run_length;

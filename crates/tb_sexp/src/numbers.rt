@@ -1,8 +1,9 @@
 ghost use Rattle.std.specs.Prelude.{◌≡◌, ◌+◌, ◌*◌, ◌^◌, ◌<◌, ◌≤◌, SomeIff, length};
 ghost use Rattle.std.specs.List.{list_all};
 ghost use Rattle.std.specs.Prelude.{nat_lt};
-ghost use Rattle.tb_sexp.specs.Lexing.{fixnum_of, number_of};
+ghost use Rattle.tb_sexp.specs.calls.Lexing.{fixnum_of, number_of};
 ghost use Rattle.tb_sexp.specs.Numbers as numbers;
+ghost use Rattle.tb_sexp.specs.calls.Lexing as lexing;
 ghost use Rattle.tb_sexp.specs.Numbers.{digit_of, value_of};
 
 use super::token::{Fault, Token};
@@ -38,7 +39,7 @@ fn are_digits(base: u64, digits: &[u8]) -> bool
 }
 
 fn is_negative(run: &[u8]) -> bool
-    ensures { result ≡ numbers.is_negative run.now }
+    ensures { result ≡ lexing.is_negative run.now }
 {
     match run {
         [b'-', ..] => true,
@@ -47,7 +48,7 @@ fn is_negative(run: &[u8]) -> bool
 }
 
 fn digits_of(run: &[u8]) -> &[u8]
-    ensures { result.now ≡ numbers.digits_of run.now }
+    ensures { result.now ≡ lexing.digits_of run.now }
 {
     match run {
         [b'+' | b'-', rest @ ..] => rest,

@@ -1,7 +1,7 @@
-ghost use Rattle.std.specs.Prelude.{◌≡◌, map, IfOk, OnOk};
-ghost use Rattle.tb_sexp.specs.Frames.{view_frame, view_state};
-ghost use Rattle.tb_sexp.specs.Reading as reading;
-ghost use Rattle.tb_sexp.specs.Reading.{Accepts, accept, begin, deep_mark};
+ghost use Rattle.std.specs.Prelude.{◌≡◌, map};
+ghost use Rattle.tb_sexp.specs.calls.Frames.{view_frame, view_state};
+ghost use Rattle.tb_sexp.specs.calls.Reading as reading;
+ghost use Rattle.tb_sexp.specs.calls.Reading.{Accepts, accept, begin, deep_mark};
 ghost use Rattle.tb_sexp.specs.View.{view, view_node};
 
 use super::frames::{Frame, Open, give};
@@ -15,21 +15,17 @@ use tb_prim::{NoMemory, Place, Row};
 /// The most lists, vectors and marks that are not finished.
 const DEPTH: usize = 256;
 
-/// Whether a datum can stand here. What is open stays as it is.
-pub fn takes_datum(state: &mut Open) -> Result<bool, NoMemory>
-    ensures same { OnOk result (view_state state.new ≡ view_state state.old) }
-    ensures exact { IfOk result (λ takes. takes ≡ reading.takes_datum (map view_frame state.old.frames)) }
+/// Whether a datum can stand here.
+pub fn takes_datum(state: &Open) -> bool
+    ensures { result ≡ reading.takes_datum (map view_frame state.now.frames) }
 {
-    match state.frames.pop() {
-        None => Ok(true),
-        Some(Frame::AfterTail(place, elements, tail)) => {
-            state.frames.push(Frame::AfterTail(place, elements, tail))?;
-            Ok(false)
-        }
-        Some(frame) => {
-            state.frames.push(frame)?;
-            Ok(true)
-        }
+    match state.frames.top() {
+        None => true,
+        Some(Frame::Mark(_, _)) => true,
+        Some(Frame::List(_, _)) => true,
+        Some(Frame::AfterDot(_, _)) => true,
+        Some(Frame::AfterTail(_, _, _)) => false,
+        Some(Frame::Vector(_, _)) => true,
     }
 }
 
@@ -86,7 +82,7 @@ fn begin_frame(
 ) -> Result<(), ReadRefusal>
     ensures { Accepts (begin (view_state state.old) place (view_frame frame) deep) result (view_state state.new) }
 {
-    if !takes_datum(state)? {
+    if !takes_datum(state) {
         return Err(ReadRefusal::Syntax(place));
     }
     if state.frames.len() < DEPTH {
@@ -111,7 +107,7 @@ fn deep_mark_refusal(place: Place, rest: &[u8]) -> ReadRefusal
 fn put_datum(alloc: Global, state: &mut Open, place: Place, node: Node) -> Result<(), ReadRefusal>
     ensures { Accepts (reading.datum (view_state state.old) place (view_node node)) result (view_state state.new) }
 {
-    if takes_datum(state)? {
+    if takes_datum(state) {
         give(alloc, state, Tail::Whole(Datum { place, node }))?;
         Ok(())
     } else {

@@ -1,12 +1,14 @@
 ghost use Rattle.std.specs.Prelude.{◌≡◌, ◌+◌, ◌-◌, ◌≤◌, ◌<◌, map, IfErr, IfOk, length, drop, take};
 ghost use Rattle.std.specs.List.{All};
-ghost use Rattle.tb_sexp.specs.Frames.{view_frame, view_state};
-ghost use Rattle.tb_sexp.specs.Places.{HasRoom, behind_all};
+ghost use Rattle.tb_sexp.specs.calls.Frames.{view_frame, view_state};
+ghost use Rattle.tb_sexp.specs.calls.Scanning.{HasRoom};
+ghost use Rattle.tb_sexp.specs.Places.{behind_all};
 ghost use Rattle.tb_sexp.specs.ReadData.{IsRead};
-ghost use Rattle.tb_sexp.specs.Reading as reading;
-ghost use Rattle.tb_sexp.specs.Reading.{failed, refusal_of};
-ghost use Rattle.tb_sexp.specs.Runs as runs;
-ghost use Rattle.tb_sexp.specs.Runs.{Reads, Takes, shown};
+ghost use Rattle.tb_sexp.specs.calls.Reading as reading;
+ghost use Rattle.tb_sexp.specs.calls.Reading.{failed};
+ghost use Rattle.tb_sexp.specs.Faults.{refusal_of};
+ghost use Rattle.tb_sexp.specs.calls.Runs as runs;
+ghost use Rattle.tb_sexp.specs.calls.Runs.{Reads, Takes, shown};
 ghost use Rattle.tb_sexp.specs.Texts.{IsText, RefusedAs};
 ghost use Rattle.tb_sexp.specs.View.{view};
 
@@ -46,19 +48,14 @@ fn refusal_at(fault: Fault, place: Place, text: &[u8]) -> ReadRefusal
     }
 }
 
-fn failed_at(
-    state: &mut Open,
-    fault: Fault,
-    place: Place,
-    text: &[u8],
-) -> Result<ReadRefusal, NoMemory>
+fn failed_at(state: &Open, fault: Fault, place: Place, text: &[u8]) -> ReadRefusal
     requires { HasRoom place (length text.now) }
-    ensures { IfOk result (λ refusal. refusal ≡ failed (view_state state.old) fault place text.now) }
+    ensures { result ≡ failed (view_state state.now) fault place text.now }
 {
-    if takes_datum(state)? {
-        Ok(refusal_at(fault, place, text))
+    if takes_datum(state) {
+        refusal_at(fault, place, text)
     } else {
-        Ok(ReadRefusal::Syntax(place))
+        ReadRefusal::Syntax(place)
     }
 }
 
@@ -79,7 +76,7 @@ fn take_token(
             Ok(size)
         }
         Err(TokenRefusal::NoMemory) => Err(ReadRefusal::NoMemory),
-        Err(TokenRefusal::Fault(fault)) => Err(failed_at(state, fault, place, text)?),
+        Err(TokenRefusal::Fault(fault)) => Err(failed_at(state, fault, place, text)),
     }
 }
 

@@ -1,7 +1,9 @@
 ghost use Rattle.std.specs.Prelude.{◌≡◌, ◌≤◌, length};
 ghost use Rattle.std.specs.List.{list_all};
 ghost use Rattle.tb_sexp.specs.Bytes as bytes;
-ghost use Rattle.tb_sexp.specs.Places.{HasRoom, behind, behind_all};
+ghost use Rattle.tb_sexp.specs.calls.Scanning as scanning;
+ghost use Rattle.tb_sexp.specs.calls.Scanning.{HasRoom};
+ghost use Rattle.tb_sexp.specs.Places.{behind, behind_all};
 
 use tb_prim::Place;
 
@@ -53,7 +55,7 @@ pub fn is_identifier(run: &[u8]) -> bool
 
 /// How many bytes stand before the first delimiter.
 pub fn run_length(text: &[u8]) -> usize
-    ensures exact { result ≡ bytes.run_length text.now }
+    ensures exact { result ≡ scanning.run_length text.now }
     ensures within { result ≤ length text.now }
 {
     for (index, b) in text.iter().enumerate() {
@@ -66,7 +68,7 @@ pub fn run_length(text: &[u8]) -> usize
 
 /// How many bytes of whitespace and comments stand in front.
 pub fn blanks(text: &[u8]) -> usize
-    ensures exact { result ≡ bytes.blanks text.now }
+    ensures exact { result ≡ scanning.blanks text.now }
     ensures within { result ≤ length text.now }
 {
     let mut in_comment = false;

@@ -20,7 +20,7 @@ impl<T> Model for Stack<T> {
 }
 
 impl<T: Drop> Stack<T> {
-    ghost use Rattle.std.specs.Prelude.{◌≡◌, [], ◌∷◌, OnOk, MatchOption, length};
+    ghost use Rattle.std.specs.Prelude.{◌≡◌, List, [], ◌∷◌, OnOk, OnErr, MatchOption, length};
 
     /// An empty stack. Takes no memory.
     pub fn new(alloc: Global) -> Stack<T>
@@ -40,10 +40,18 @@ impl<T: Drop> Stack<T> {
 
     /// Puts an element on top. An `Err` leaves the stack as it was.
     pub fn push(&mut self, item: T) -> Result<(), NoMemory>
-        ensures { OnOk result (self.new ≡ item ∷ self.old) }
+        ensures ok { OnOk result (self.new ≡ item ∷ self.old) }
+        ensures err { OnErr result (self.new ≡ self.old) }
     {
         self.items.push(item)?;
         Ok(())
+    }
+
+    /// The element on top, if there is one.
+    pub fn top(&self) -> Option<&T>
+        ensures { MatchOption result (self.now ≡ []) (λ item. (below : List T) × (self.now ≡ item.now ∷ below)) }
+    {
+        self.items.last()
     }
 
     /// Takes the element on top.

@@ -1,5 +1,6 @@
 ghost use Rattle.std.specs.Prelude.{◌≡◌, ◌+◌, ◌^◌, ◌<◌, ◌≤◌, IfOk, length};
-ghost use Rattle.tb_sexp.specs.Lexing.{Gives, PutsCharacter, escaped_of, string_at};
+ghost use Rattle.tb_sexp.specs.calls.Lexing.{Gives, PutsCharacter, string_at};
+ghost use Rattle.tb_sexp.specs.Bytes.{escaped_of};
 
 use super::token::{Fault, Token, TokenRefusal};
 use std::alloc::Global;

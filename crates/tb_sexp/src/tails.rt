@@ -1,6 +1,6 @@
 ghost use Rattle.std.specs.Prelude.{◌≡◌, map, reverse, IfOk};
-ghost use Rattle.tb_sexp.specs.Frames.{dotted, front_of, list_of};
-ghost use Rattle.tb_sexp.specs.Tails.{ended, view_tail};
+ghost use Rattle.tb_sexp.specs.ListShapes.{dotted, front_of, list_of};
+ghost use Rattle.tb_sexp.specs.calls.Tails.{ended, view_tail};
 ghost use Rattle.tb_sexp.specs.Tree.{At, Dotted};
 ghost use Rattle.tb_sexp.specs.View.{trees, view, view_node};
 

@@ -1,7 +1,7 @@
 -- What the code of a program promises.
 use Rattle.std.specs.Prelude.{◌≡◌, ℕ, ◌≤◌, List, [], length}
 use Rattle.tb_prim.specs.declared.event.Stop.{Stop}
-use Rattle.tb_semantics.specs.Runs.{Keeps, after}
+use Rattle.tb_semantics.specs.Runs.{KeepsEvents, after}
 use Rattle.tb_core.specs.Tree.{ProgramTree, Trees}
 use Rattle.tb_core.specs.OperandOrder.{order_of}
 use Rattle.tb_core.specs.FreeVariables.{free_all, inner_free}
@@ -22,7 +22,7 @@ IsOver _ = ⊥
 -- in every heap and for every input the code emits what the reference machine emits, and comes to its end
 -- or fails after at most as many steps as it has instructions
 pub record Compiles (program : ProgramTree) (code : List Instr) (places : List PlaceEntry) : Type 0 where
-  pub keeps : (heap : ℕ) (input : List ℕ) → 1024 ≤ heap → Keeps (mac_machine code places heap) (reference program (order_of program) input)
+  pub keeps : (heap : ℕ) (input : List ℕ) → 1024 ≤ heap → KeepsEvents (mac_machine code places heap) (reference program (order_of program) input)
   pub ends : (heap : ℕ) → 1024 ≤ heap → (n : ℕ) × (n ≤ length code) × IsOver (after (mac_machine code places heap) n)
 
 -- the forms as a program, in its own order

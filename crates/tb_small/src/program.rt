@@ -1,10 +1,9 @@
-ghost use Rattle.std.specs.Prelude.{◌≡◌, ◌+◌, ◌*◌, ◌≤◌, length, map, IfOk, All};
+ghost use Rattle.std.specs.Prelude.{◌≡◌, length, map, IfOk, All};
 ghost use Rattle.tb_core.specs.View.{view, trees};
-ghost use Rattle.tb_core.specs.Width.{square_sum};
 ghost use Rattle.tb_small_mac.specs.Rules.{MapOk};
 ghost use Rattle.tb_small.specs.CodeRules.{CodeKeepsRules};
-ghost use Rattle.tb_small.specs.Compiled.{Compiles, IsSmall};
-ghost use Rattle.tb_small.specs.Generate.{program_of, program_code, program_places};
+ghost use Rattle.tb_small.specs.Compiled.{IsSmall};
+ghost use Rattle.tb_small.specs.Generate.{program_code, program_places};
 
 use super::forms::put_exprs;
 use super::generator::{Output, put};
@@ -68,12 +67,11 @@ fn assembled(alloc: Global, out: Output) -> Result<MacCode, NoMemory>
     })
 }
 
-/// The code of a program that is these small forms alone. It has at most 8 times as many instructions as the sum
-/// of the squared widths, and 8 more.
+/// The code of a program that is these small forms alone: exactly the definition's.
 pub fn generate(alloc: Global, forms: &[Expr]) -> Result<MacCode, NoMemory>
     requires small { IsSmall (trees (map view forms.now)) }
-    ensures compiles { IfOk result (λ made. Compiles (program_of (trees (map view forms.now))) made.code made.places) }
-    ensures short { IfOk result (λ made. length made.code ≤ 8 * square_sum (program_of (trees (map view forms.now))) + 8) }
+    ensures code { IfOk result (λ made. made.code ≡ program_code (trees (map view forms.now))) }
+    ensures places { IfOk result (λ made. made.places ≡ program_places (trees (map view forms.now))) }
 {
     let out = program(alloc, forms)?;
     assembled(alloc, out)

@@ -7,13 +7,15 @@ use Rattle.tb_sexp.specs.declared.token.Fault.{Fault}
 use Rattle.tb_sexp.specs.declared.token.Fault.TheVariants as fault
 use Rattle.tb_sexp.specs.declared.refusal.ReadRefusal.{ReadRefusal}
 use Rattle.tb_sexp.specs.declared.refusal.ReadRefusal.TheVariants as reading
-use Rattle.tb_sexp.specs.Reading.{refusal_of}
+use Rattle.tb_sexp.specs.Faults.{refusal_of}
 use Rattle.tb_sexp.specs.Texts.{IsText, IsRefused, no_front, a_mark_alone, too_deep, faulty, out_of_place, unclosed}
 use Rattle.tb_sexp.specs.Tree as datum
 use Rattle.tb_sexp.specs.View as sexp
 use Rattle.tb_forms.specs.Forms.{AreAccepted, FirstNotBuilt}
 use Rattle.tb_twobit.specs.Refusals as refused
-use Rattle.tb_twobit.specs.Refusals.{Refusal, refusal, IsAccepted, IsRefusedWith, not_built}
+use Rattle.tb_twobit.specs.declared.refusal.Refusal.{Refusal}
+use Rattle.tb_twobit.specs.declared.refusal.RefusalKind.TheVariants as kind
+use Rattle.tb_twobit.specs.Refusals.{refusal, IsAccepted, IsRefusedWith, not_built}
 
 -- a text spells one row of data or has one refusal
 pub record TextLaws : Type 0 where
@@ -31,17 +33,17 @@ pub record DataLaws : Type 0 where
 
 -- the number and place of what is refused while a text is read
 abbrev said : ReadRefusal → Option Refusal
-said (reading.Syntax p) = Some (refusal 101 p)
-said (reading.Unclosed p) = Some (refusal 102 p)
-said (reading.TooDeep p) = Some (refusal 103 p)
-said (reading.TooLong p) = Some (refusal 104 p)
-said (reading.TooBig p) = Some (refusal 105 p)
+said (reading.Syntax p) = Some (refusal kind.Syntax p)
+said (reading.Unclosed p) = Some (refusal kind.Unclosed p)
+said (reading.TooDeep p) = Some (refusal kind.TooDeep p)
+said (reading.TooLong p) = Some (refusal kind.TooLong p)
+said (reading.TooBig p) = Some (refusal kind.TooBig p)
 said reading.NoMemory = None
 
 -- why a text is refused: while it is read, or at a datum
 data Why (bytes : List ℕ) (r : Refusal) : Type 0 where
   unread : (e : ReadRefusal) → IsRefused false bytes e → said e ≡ Some r → Why bytes r
-  unbuilt : (p : Place) (ds : List datum.Tree) → IsText false bytes ds → FirstNotBuilt (sexp.trees ds) p → r ≡ refusal 115 p → Why bytes r
+  unbuilt : (p : Place) (ds : List datum.Tree) → IsText false bytes ds → FirstNotBuilt (sexp.trees ds) p → r ≡ refusal kind.NotBuilt p → Why bytes r
 
 why : (bytes : List ℕ) (r : Refusal) → IsRefusedWith bytes r → Why bytes r
 why bytes _ (refused.syntax {p = p} h) = unread (reading.Syntax p) h refl
@@ -69,11 +71,11 @@ not_for_memory bytes _ (out_of_place ts p byte rest f h b d) e = cc
 not_for_memory bytes _ (unclosed ts p h g o m) e = cc
 
 refused_so : (bytes : List ℕ) (e : ReadRefusal) → IsRefused false bytes e → (r : Refusal) × IsRefusedWith bytes r
-refused_so bytes (reading.Syntax p) h = (refusal 101 p, refused.syntax h)
-refused_so bytes (reading.Unclosed p) h = (refusal 102 p, refused.unclosed h)
-refused_so bytes (reading.TooDeep p) h = (refusal 103 p, refused.too_deep h)
-refused_so bytes (reading.TooLong p) h = (refusal 104 p, refused.too_long h)
-refused_so bytes (reading.TooBig p) h = (refusal 105 p, refused.too_big h)
+refused_so bytes (reading.Syntax p) h = (refusal kind.Syntax p, refused.syntax h)
+refused_so bytes (reading.Unclosed p) h = (refusal kind.Unclosed p, refused.unclosed h)
+refused_so bytes (reading.TooDeep p) h = (refusal kind.TooDeep p, refused.too_deep h)
+refused_so bytes (reading.TooLong p) h = (refusal kind.TooLong p, refused.too_long h)
+refused_so bytes (reading.TooBig p) h = (refusal kind.TooBig p, refused.too_big h)
 refused_so bytes reading.NoMemory h = absurd (not_for_memory bytes reading.NoMemory h refl)
 
 refusal_or : Refusal → Option Refusal → Refusal
@@ -102,7 +104,7 @@ one_why texts forms bytes r s (unread e h a) (unread f g b) = same_said r s (sym
 one_why texts forms bytes r s (unread e h a) (unbuilt q ds t g b) = absurd (texts.not_both bytes ds e t h)
 one_why texts forms bytes r s (unbuilt p ds t h a) (unread f g b) = absurd (texts.not_both bytes ds f t g)
 one_why texts forms bytes r s (unbuilt p ds t h a) (unbuilt q es u g b) =
-    a ∙ ap (refusal 115) (forms.one_refusal (sexp.trees es) p q (subst (λ ds. FirstNotBuilt (sexp.trees ds) p) (texts.one_reading bytes ds es t u) h) g) ∙ sym b
+    a ∙ ap (refusal kind.NotBuilt) (forms.one_refusal (sexp.trees es) p q (subst (λ ds. FirstNotBuilt (sexp.trees ds) p) (texts.one_reading bytes ds es t u) h) g) ∙ sym b
 
 pub one_refusal : (texts : TextLaws) (forms : DataLaws) (bytes : List ℕ) (r s : Refusal) → IsRefusedWith bytes r → IsRefusedWith bytes s → r ≡ s
 one_refusal texts forms bytes r s h g = one_why texts forms bytes r s (why bytes r h) (why bytes s g)
@@ -111,7 +113,7 @@ one_refusal texts forms bytes r s h g = one_why texts forms bytes r s (why bytes
 built_or_not : (bytes : List ℕ) (ds : List datum.Tree) → IsText false bytes ds → ((es : Trees) × AreAccepted (sexp.trees ds) es) ⊎ ((p : Place) × FirstNotBuilt (sexp.trees ds) p) →
     ((es : Trees) × IsAccepted bytes es) ⊎ ((r : Refusal) × IsRefusedWith bytes r)
 built_or_not bytes ds t (inl a) = inl (a.0, record { elements = ds; text = t; built = a.1 })
-built_or_not bytes ds t (inr f) = inr (refusal 115 f.0, not_built ds t f.1)
+built_or_not bytes ds t (inr f) = inr (refusal kind.NotBuilt f.0, not_built ds t f.1)
 
 read_or_not : (forms : DataLaws) (bytes : List ℕ) → ((ds : List datum.Tree) × IsText false bytes ds) ⊎ ((e : ReadRefusal) × IsRefused false bytes e) →
     ((es : Trees) × IsAccepted bytes es) ⊎ ((r : Refusal) × IsRefusedWith bytes r)

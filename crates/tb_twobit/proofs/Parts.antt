@@ -6,7 +6,7 @@ use Rattle.std.proofs.Math.Seq.{take-append-add}
 use Rattle.std.specs.Prelude.{Result, Ok, Err}
 use Rattle.tb_base.specs.declared.outside.Failed.{Failed}
 use Rattle.tb_base.specs.Outside.{PutsSome, PutsAll, HasCause, Rose}
-use Rattle.tb_twobit.specs.GoDoes.{Sunk, Said}
+use Rattle.tb_twobit.specs.Sinks.{Sunk, Said}
 use Rattle.tb_twobit.specs.Statuses.{joined}
 
 -- all texts are those before one, that one, and the rest

@@ -1,6 +1,6 @@
 pub mod Words
-pub mod Asked
 pub mod Statuses
 pub mod Refusals
+pub mod Sinks
 pub mod GoDoes
-pub mod Finish
+pub mod calls

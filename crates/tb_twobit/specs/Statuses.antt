@@ -4,6 +4,9 @@ use Rattle.tb_prim.specs.declared.place.Place.{Place}
 use Rattle.tb_prim.specs.declared.event.Cause.{Cause}
 use Rattle.tb_twobit.specs.declared.status.Status.{Status}
 use Rattle.tb_twobit.specs.declared.status.Status.TheVariants.{Done, Refused, Usage, NotLoaded, NotPut, NoMemory, Failed, Full, OutOfSteps, Stuck, TooLong}
+use Rattle.tb_twobit.specs.declared.refusal.Refusal.{Refusal}
+use Rattle.tb_twobit.specs.declared.refusal.RefusalKind.{RefusalKind}
+use Rattle.tb_twobit.specs.declared.refusal.RefusalKind.TheVariants as kind
 
 -- the number of a status
 abbrev pub number : Status → ℕ
@@ -30,6 +33,15 @@ cause_number Cause.ZeroDivide = 6
 cause_number Cause.Undefined = 7
 cause_number Cause.TooMany = 8
 
+-- the number of a kind of refusal
+abbrev pub refusal_number : RefusalKind → ℕ
+refusal_number kind.Syntax = 101
+refusal_number kind.Unclosed = 102
+refusal_number kind.TooDeep = 103
+refusal_number kind.TooLong = 104
+refusal_number kind.TooBig = 105
+refusal_number kind.NotBuilt = 115
+
 -- some texts, one after another
 abbrev pub joined : List (List ℕ) → List ℕ
 joined [] = []
@@ -42,11 +54,13 @@ library_text false = []
 
 -- a line of a word, a number, and a place as LINE:COLUMN
 abbrev pub placed_line : List ℕ → ℕ → Place → List ℕ
-placed_line word n p = joined (word ∷ decimal n ∷ codes " " ∷ library_text p.library ∷ decimal p.line ∷ codes ":" ∷ decimal p.column ∷ (10 ∷ []) ∷ [])
+placed_line word n p =
+    joined (word ∷ decimal n ∷ codes " " ∷ library_text p.library ∷
+    decimal p.line ∷ codes ":" ∷ decimal p.column ∷ (10 ∷ []) ∷ [])
 
 -- the line of a text that is refused: the number of the refusal, and its place
-abbrev pub refused_line : ℕ → Place → List ℕ
-refused_line n p = placed_line (codes "refused ") n p
+abbrev pub refused_line : Refusal → List ℕ
+refused_line r = placed_line (codes "refused ") (refusal_number r.kind) r.place
 
 -- the line of a run that failed: its cause, and its place
 abbrev pub failed_line : Cause → Place → List ℕ

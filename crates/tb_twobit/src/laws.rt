@@ -1,9 +1,12 @@
+//! What holds of all source texts.
+
 ghost use Rattle.std.specs.Prelude.{◌≡◌, ◌⊎◌, ℕ, List};
 ghost use Rattle.tb_core.specs.Tree.{Trees};
-ghost use Rattle.tb_twobit.specs.Refusals.{Refusal, IsAccepted, IsRefusedWith};
+ghost use Rattle.tb_twobit.specs.Refusals.{IsAccepted, IsRefusedWith};
+ghost use Rattle.tb_twobit.specs.declared.refusal.Refusal.{Refusal};
 
 use tb_forms::one_answer;
-use tb_sexp::texts_read_one_way;
+use tb_sexp::laws::texts_read_one_way;
 
 /// A source text is accepted with one program, or refused with one number at one place, and not both.
 pub fn one_answer_a_text()

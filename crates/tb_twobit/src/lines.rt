@@ -1,23 +1,28 @@
-ghost use Rattle.std.specs.Prelude.{◌≡◌, map};
+//! The lines of `diag`.
+
+ghost use Rattle.std.specs.Prelude.{◌≡◌, ◌≤◌, map};
 ghost use Rattle.tb_base.specs.Outside.{HasCause, PutsAll};
-ghost use Rattle.tb_twobit.specs.GoDoes.{Said};
+ghost use Rattle.tb_twobit.specs.Sinks.{Said, sunk};
 ghost use Rattle.tb_twobit.specs.Statuses as statuses;
 ghost use Rattle.tb_twobit.specs.Statuses.{joined, placed_line, refused_line, failed_line};
 
+use super::refusal::Refusal;
 use itoa::Buffer;
 use tb_base::{Failed, Sink, put_all};
 use tb_prim::{Cause, Place};
 
 /// Says why and where a text is refused. A fault of `diag` changes nothing.
-pub fn say_refused<E: Sink>(diag: &mut E, number: u32, place: Place)
-    ensures { Said (record { before = E.held diag.old; now = E.held diag.new; faults = E.faults diag.old; faults_now = E.faults diag.new }) (refused_line number place) }
+pub fn say_refused<E: Sink>(diag: &mut E, refusal: Refusal)
+    ensures line { Said (sunk E.held E.faults diag.old diag.new) (refused_line refusal) }
+    ensures later { E.faults diag.old ≤ E.faults diag.new }
 {
-    let _ = put_placed(diag, b"refused ", number, place);
+    let _ = put_placed(diag, b"refused ", refusal.kind.number(), refusal.place);
 }
 
 /// Says why and where a run failed. A fault of `diag` changes nothing.
 pub fn say_failed<E: Sink>(diag: &mut E, cause: Cause, place: Place)
-    ensures { Said (record { before = E.held diag.old; now = E.held diag.new; faults = E.faults diag.old; faults_now = E.faults diag.new }) (failed_line cause place) }
+    ensures line { Said (sunk E.held E.faults diag.old diag.new) (failed_line cause place) }
+    ensures later { E.faults diag.old ≤ E.faults diag.new }
 {
     let _ = put_placed(diag, b"failed ", cause_number(cause), place);
 }

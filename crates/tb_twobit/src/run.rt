@@ -1,22 +1,22 @@
-ghost use Rattle.std.specs.Prelude.{◌≡◌, ◌+◌, ◌*◌, ◌≤◌, ℕ, List, length};
-ghost use Rattle.tb_core.specs.Tree.{Trees};
-ghost use Rattle.tb_core.specs.Width.{square_sum};
-ghost use Rattle.tb_small.specs.Compiled.{Compiles};
-ghost use Rattle.tb_small.specs.Generate.{program_of};
-ghost use Rattle.tb_twobit.specs.Finish.{Finishes};
-ghost use Rattle.tb_twobit.specs.GoDoes.{CodeDoes};
-ghost use Rattle.tb_twobit.specs.Statuses.{number};
+//! Running code, and the status in which a run ends.
 
+ghost use Rattle.std.specs.Prelude.{◌≡◌, ◌≤◌};
+ghost use Rattle.tb_twobit.specs.Sinks.{sunk};
+ghost use Rattle.tb_twobit.specs.calls.Running.{Finishes, RunsCode};
+
+use super::limits::Limits;
 use super::lines::say_failed;
 use super::status::Status;
+
 use std::alloc::Global;
 use tb_base::{Sink, Source};
-use tb_small_mac::{MacCode, MacMachine};
 use tb_prim::Stop;
+use tb_small_mac::{MacCode, MacMachine};
 
 /// The status of a run that stopped so. Says why and where it failed.
 fn finish<E: Sink>(stop: Stop, diag: &mut E) -> Status
-    ensures { Finishes stop (record { before = E.held diag.old; now = E.held diag.new; faults = E.faults diag.old; faults_now = E.faults diag.new }) result }
+    ensures finishes { Finishes stop (sunk E.held E.faults diag.old diag.new) result }
+    ensures later { E.faults diag.old ≤ E.faults diag.new }
 {
     match stop {
         Stop::End => Status::Done,
@@ -36,29 +36,24 @@ fn finish<E: Sink>(stop: Stop, diag: &mut E) -> Status
     }
 }
 
-/// Runs the code, in a heap of so many words and for at most so many steps.
+/// Runs the code within the limits, from the machine's start.
 pub fn run_code<I: Source, O: Sink, E: Sink>(
     alloc: Global,
     code: &MacCode,
-    heap: u32,
-    steps: u64,
+    limits: Limits,
     input: &mut I,
     out: &mut O,
     diag: &mut E,
 ) -> Status
-    requires least { 1024 ≤ heap }
-    requires most { heap ≤ 33554432 }
-    ensures does { (source : List ℕ) (forms : Trees) → Compiles (program_of forms) code.now.code code.now.places →
-        length code.now.code ≤ 8 * square_sum (program_of forms) + 8 → CodeDoes (record { source = source; heap = heap; steps = steps }) forms
-        (record { before = O.held out.old; now = O.held out.new; faults = O.faults out.old; faults_now = O.faults out.new })
-        (record { before = E.held diag.old; now = E.held diag.new; faults = E.faults diag.old; faults_now = E.faults diag.new })
-        (number result) }
+    ensures does { RunsCode code.now.code code.now.places limits.heap limits.steps
+        (sunk O.held O.faults out.old out.new) (sunk E.held E.faults diag.old diag.new) result }
     ensures input { input.new ≡ input.old }
     ensures later { O.faults out.old ≤ O.faults out.new }
+    ensures diag_later { E.faults diag.old ≤ E.faults diag.new }
 {
-    match MacMachine::load(alloc, code, heap) {
+    match MacMachine::load(alloc, code, limits.heap) {
         Ok(mut machine) => {
-            let stop = machine.run(steps, input, out);
+            let stop = machine.run(limits.steps, input, out);
             finish(stop, diag)
         }
         Err(_) => Status::NoMemory,

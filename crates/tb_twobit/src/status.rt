@@ -1,3 +1,5 @@
+//! The statuses in which calls end.
+
 /// In which a call ends. The numbers are those of the process's exit status.
 #[derive(Clone, Copy, Debug, PartialEq, Eq)]
 pub enum Status {

@@ -1,6 +1,9 @@
-ghost use Rattle.std.specs.Prelude.{◌≡◌, ◌≤◌, ◌↔◌, map, None, IfSome, IfNone};
+//! The top call.
+
+ghost use Rattle.std.specs.Prelude.{◌≡◌, ◌≤◌, ◌↔◌, map, None, IfSome};
 ghost use Rattle.tb_base.specs.Outside.{CountsOnly, SameCounts};
-ghost use Rattle.tb_twobit.specs.GoDoes.{GoDoes, Gained};
+ghost use Rattle.tb_twobit.specs.GoDoes.{GoDoes};
+ghost use Rattle.tb_twobit.specs.Sinks.{sunk};
 ghost use Rattle.tb_twobit.specs.Words.{command_of};
 
 use super::go::go;
@@ -21,32 +24,31 @@ pub fn twobit<S: Store, I: Source, O: Sink, E: Sink>(
     diag: &mut E,
 ) -> u8
     ensures usage { (result ≡ 2) ↔ (command_of (map (λ w. w.now) words.now) ≡ None) }
-    ensures go { IfSome (command_of (map (λ w. w.now) words.now)) (λ command. GoDoes command (S.files store.old)
-        (S.load_faults store.old command.source) (S.load_faults store.new command.source)
-        (record { before = O.held out.old; now = O.held out.new; faults = O.faults out.old; faults_now = O.faults out.new })
-        (record { before = E.held diag.old; now = E.held diag.new; faults = E.faults diag.old; faults_now = E.faults diag.new })
-        result) }
+    ensures go { IfSome (command_of (map (λ w. w.now) words.now)) (λ command. GoDoes command (record {
+        files = S.files store.old;
+        loads = S.load_faults store.old command.source;
+        loads_now = S.load_faults store.new command.source;
+        out = sunk O.held O.faults out.old out.new;
+        diag = sunk E.held E.faults diag.old diag.new }) result) }
 
     // With words that are no command nothing is put, said or loaded.
     ensures nothing_put { result ≡ 2 → out.new ≡ out.old }
     ensures nothing_said { result ≡ 2 → diag.new ≡ diag.old }
     ensures nothing_loaded { result ≡ 2 → store.new ≡ store.old }
 
-    // The store's files and the input stay as they are.
+    // The store's files and the input stay as they are, and no count of faults falls.
     ensures files { S.files store.new ≡ S.files store.old }
-    ensures loads { IfSome (command_of (map (λ w. w.now) words.now)) (λ command. CountsOnly (S.load_faults store.old) (S.load_faults store.new) command.source) }
+    ensures loads { IfSome (command_of (map (λ w. w.now) words.now)) (λ command.
+        CountsOnly (S.load_faults store.old) (S.load_faults store.new) command.source) }
     ensures saves { SameCounts (S.save_faults store.old) (S.save_faults store.new) }
     ensures input { input.new ≡ input.old }
     ensures later { O.faults out.old ≤ O.faults out.new }
+    ensures diag_later { E.faults diag.old ≤ E.faults diag.new }
 {
     match asked_for(words) {
-        Some(
-            Command::Go {
-                source,
-                heap,
-                steps,
-            },
-        ) => go(alloc, source, heap, steps, store, input, out, diag).number(),
+        Some(Command::Go { source, limits }) => {
+            go(alloc, source, limits, store, input, out, diag).number()
+        }
         None => Status::Usage.number(),
     }
 }

@@ -1,18 +1,18 @@
+//! The words of the command line.
+
 ghost use Rattle.std.specs.Prelude.{◌≡◌, ◌+◌, ◌-◌, ◌*◌, ◌^◌, ◌<◌, ◌&&◌, nat_le, length, map, SomeIff, option_map};
 ghost use Rattle.std.specs.List.{list_all};
 ghost use Rattle.tb_twobit.specs.Words as words;
 ghost use Rattle.tb_twobit.specs.Words.{command_of, go_with, number_of, digits_value, is_digit};
-ghost use Rattle.tb_twobit.specs.Asked.{go_of};
+ghost use Rattle.tb_twobit.specs.calls.Asked.{go_of};
+
+use super::limits::Limits;
 
 /// What the words of the command line ask for.
 #[derive(Clone, Copy, Debug)]
 pub enum Command<'a> {
-    /// Compiles the file and runs it on MAC, in a heap of so many words and for at most so many steps.
-    Go {
-        source: &'a str,
-        heap: u32,
-        steps: u64,
-    },
+    /// Compiles the file and runs it on MAC within the limits.
+    Go { source: &'a str, limits: Limits },
 }
 
 /// The fewest and the most words of a heap.
@@ -41,11 +41,11 @@ fn go<'a>(source: &'a str, heap: u64, steps: u64) -> Option<Command<'a>>
     if source.is_empty() || heap < HEAP_WORDS.0 || heap > HEAP_WORDS.1 {
         None
     } else {
-        Some(Command::Go {
-            source,
+        let limits = Limits {
             heap: heap as u32,
             steps,
-        })
+        };
+        Some(Command::Go { source, limits })
     }
 }
 

@@ -15,15 +15,6 @@ check_expr-returns-in_err-totals-in-If-2-clause-value t c = grind judging
 pub check_expr-returns-in_err-totals-in-If-3-clause-value : goal.check_expr-returns-in_err-totals-in-If-3-clause-value
 check_expr-returns-in_err-totals-in-If-3-clause-value t c = grind judging
 
-pub check_expr-returns-in_err-totals-in-SetLocal-clause-value : goal.check_expr-returns-in_err-totals-in-SetLocal-clause-value
-check_expr-returns-in_err-totals-in-SetLocal-clause-value t c = grind judging
-
-pub check_expr-returns-in_err-totals-in-SetGlobal-clause-value : goal.check_expr-returns-in_err-totals-in-SetGlobal-clause-value
-check_expr-returns-in_err-totals-in-SetGlobal-clause-value t c = grind judging
-
-pub check_expr-returns-in_err-totals-in-DefGlobal-clause-value : goal.check_expr-returns-in_err-totals-in-DefGlobal-clause-value
-check_expr-returns-in_err-totals-in-DefGlobal-clause-value t c = grind judging
-
 pub check_expr-returns-in_err-totals-in-Let-clause-value : goal.check_expr-returns-in_err-totals-in-Let-clause-value
 check_expr-returns-in_err-totals-in-Let-clause-value t c = grind judging
 
@@ -36,9 +27,6 @@ check_expr-returns-in_err-totals-in-Letrec-clause-value t c = grind judging
 pub check_expr-returns-in_err-totals-in-Letrec-2-clause-value : goal.check_expr-returns-in_err-totals-in-Letrec-2-clause-value
 check_expr-returns-in_err-totals-in-Letrec-2-clause-value t c = grind judging
 
-pub check_expr-returns-in_err-totals-in-Seq-clause-value : goal.check_expr-returns-in_err-totals-in-Seq-clause-value
-check_expr-returns-in_err-totals-in-Seq-clause-value t c = grind judging
-
 pub check_expr-returns-in_err-totals-in-Call-clause-value : goal.check_expr-returns-in_err-totals-in-Call-clause-value
 check_expr-returns-in_err-totals-in-Call-clause-value t c = grind judging
 
@@ -47,9 +35,6 @@ check_expr-returns-in_err-totals-in-Call-2-clause-value t c = grind judging
 
 pub check_expr-returns-in_err-totals-in-Call-3-clause-value : goal.check_expr-returns-in_err-totals-in-Call-3-clause-value
 check_expr-returns-in_err-totals-in-Call-3-clause-value t c = grind judging
-
-pub check_expr-returns-in_err-totals-in-Prim-clause-value : goal.check_expr-returns-in_err-totals-in-Prim-clause-value
-check_expr-returns-in_err-totals-in-Prim-clause-value t c = grind judging
 
 pub check_expr-returns-in_err-totals-in-Apply-clause-value : goal.check_expr-returns-in_err-totals-in-Apply-clause-value
 check_expr-returns-in_err-totals-in-Apply-clause-value t c = grind judging
@@ -60,29 +45,14 @@ check_expr-returns-in_err-totals-in-Apply-2-clause-value t c = grind judging
 pub check_expr-returns-in_ok-totals-in-If-3-clause-value : goal.check_expr-returns-in_ok-totals-in-If-3-clause-value
 check_expr-returns-in_ok-totals-in-If-3-clause-value t c = grind judging
 
-pub check_expr-returns-in_ok-totals-in-SetLocal-clause-value : goal.check_expr-returns-in_ok-totals-in-SetLocal-clause-value
-check_expr-returns-in_ok-totals-in-SetLocal-clause-value t c = grind judging
-
-pub check_expr-returns-in_ok-totals-in-SetGlobal-clause-value : goal.check_expr-returns-in_ok-totals-in-SetGlobal-clause-value
-check_expr-returns-in_ok-totals-in-SetGlobal-clause-value t c = grind judging
-
-pub check_expr-returns-in_ok-totals-in-DefGlobal-clause-value : goal.check_expr-returns-in_ok-totals-in-DefGlobal-clause-value
-check_expr-returns-in_ok-totals-in-DefGlobal-clause-value t c = grind judging
-
 pub check_expr-returns-in_ok-totals-in-Let-2-clause-value : goal.check_expr-returns-in_ok-totals-in-Let-2-clause-value
 check_expr-returns-in_ok-totals-in-Let-2-clause-value t c = grind judging
 
 pub check_expr-returns-in_ok-totals-in-Letrec-2-clause-value : goal.check_expr-returns-in_ok-totals-in-Letrec-2-clause-value
 check_expr-returns-in_ok-totals-in-Letrec-2-clause-value t c = grind judging
 
-pub check_expr-returns-in_ok-totals-in-Seq-clause-value : goal.check_expr-returns-in_ok-totals-in-Seq-clause-value
-check_expr-returns-in_ok-totals-in-Seq-clause-value t c = grind judging
-
 pub check_expr-returns-in_ok-totals-in-Call-3-clause-value : goal.check_expr-returns-in_ok-totals-in-Call-3-clause-value
 check_expr-returns-in_ok-totals-in-Call-3-clause-value t c = grind judging
-
-pub check_expr-returns-in_ok-totals-in-Prim-clause-value : goal.check_expr-returns-in_ok-totals-in-Prim-clause-value
-check_expr-returns-in_ok-totals-in-Prim-clause-value t c = grind judging
 
 pub check_expr-returns-in_ok-totals-in-Apply-2-clause-value : goal.check_expr-returns-in_ok-totals-in-Apply-2-clause-value
 check_expr-returns-in_ok-totals-in-Apply-2-clause-value t c = grind judging

@@ -3,10 +3,10 @@ use Rattle.tb_prim.specs.declared.place.Place.{Place}
 use Rattle.tb_sexp.specs.declared.token.Mark.{Mark}
 use Rattle.tb_sexp.specs.declared.token.Mark.TheVariants.{Quote}
 use Rattle.tb_sexp.specs.declared.token.Token.TheVariants as token
-use Rattle.tb_sexp.specs.Frames.{Frame, InMark, InList, AfterDot, State}
+use Rattle.tb_sexp.specs.calls.Frames.{Frame, InMark, InList, AfterDot, State}
 use Rattle.tb_sexp.specs.Grammar.{Placed, placed, of_bool, of_fix, of_name, IsDatum, an_atom, a_mark, a_list, a_dotted_list, a_vector, AreData, no_data, more_data, CanGoOn, CanGoOnSomehow, OpenedLast, no_bracket, closed}
 use Rattle.tb_sexp.specs.GrammarRows.{row, joined_row, joined_data, quoted_row, quoted_data}
-use Rattle.tb_sexp.specs.Runs.{nothing}
+use Rattle.tb_sexp.specs.calls.Runs.{nothing}
 use Rattle.tb_sexp.specs.Tree.{Tree, At, Name}
 use Rattle.tb_sexp.specs.declared.token.Fault.TheVariants.{Syntax}
 use Rattle.tb_sexp.specs.Blanks.{nothing as nothing_blank, whitespace, comment}

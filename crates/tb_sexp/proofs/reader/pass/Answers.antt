@@ -1,5 +1,6 @@
 use Rattle.std.proofs.Common.{◌-◌, length, sym, subst, ◌∙◌, ap}
-use Rattle.tb_sexp.specs.Places.{HasRoom, behind_all}
+use Rattle.tb_sexp.specs.calls.Scanning.{HasRoom}
+use Rattle.tb_sexp.specs.Places.{behind_all}
 use Rattle.tb_sexp.proofs.Rooms.{room_taken}
 use Rattle.tb_sexp.proofs.reader.pass.Goals as goal
 

@@ -1,7 +1,7 @@
 use Rattle.std.proofs.Common.{◌-◌, length, sym, ◌∙◌, arith}
-use Rattle.tb_sexp.specs.Frames.{view_state}
+use Rattle.tb_sexp.specs.calls.Frames.{view_state}
 use Rattle.tb_sexp.specs.Places.{text_start}
-use Rattle.tb_sexp.specs.Runs.{ReadsFrom, nothing}
+use Rattle.tb_sexp.specs.calls.Runs.{ReadsFrom, nothing}
 use Rattle.tb_sexp.proofs.Loops.{ends, refuses, goes_on, behind_blanks}
 use Rattle.tb_sexp.proofs.Rooms.{room-fewer}
 use Rattle.tb_sexp.proofs.reader.read_tokens.Goals as goal

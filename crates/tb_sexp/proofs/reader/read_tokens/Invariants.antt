@@ -1,9 +1,10 @@
 use Rattle.std.proofs.Common.{length, List}
 use Rattle.std.specs.Prelude.{Result}
 use Rattle.tb_sexp.specs.declared.refusal.ReadRefusal.{ReadRefusal}
-use Rattle.tb_sexp.specs.Frames.{view_state}
-use Rattle.tb_sexp.specs.Places.{HasRoom, text_start}
-use Rattle.tb_sexp.specs.Runs.{ReadsFrom, nothing}
+use Rattle.tb_sexp.specs.calls.Frames.{view_state}
+use Rattle.tb_sexp.specs.calls.Scanning.{HasRoom}
+use Rattle.tb_sexp.specs.Places.{text_start}
+use Rattle.tb_sexp.specs.calls.Runs.{ReadsFrom, nothing}
 use Rattle.tb_sexp.specs.Tree.{Tree}
 use Rattle.tb_sexp.proofs.reader.read_tokens.Given as goal
 

@@ -1,5 +1,6 @@
 use Rattle.std.proofs.Common.{◌≡◌, ◌-◌, drop, length}
-use Rattle.tb_sexp.specs.Places.{HasRoom, behind_all}
+use Rattle.tb_sexp.specs.calls.Scanning.{HasRoom}
+use Rattle.tb_sexp.specs.Places.{behind_all}
 use Rattle.tb_sexp.proofs.scan.place_behind.Given as goal
 
 abbrev pub invariant-loop-b : goal.invariant-loop-b

@@ -1,5 +1,5 @@
 use Rattle.std.proofs.Common.{◌≡◌, [], false, drop}
-use Rattle.tb_sexp.specs.Lexing.{string_from}
+use Rattle.tb_sexp.specs.calls.Lexing.{string_from}
 use Rattle.tb_sexp.proofs.strings.string.Given as goal
 
 abbrev pub invariant-loop-index : goal.invariant-loop-index

@@ -2,8 +2,8 @@ use Rattle.std.proofs.Common.{◌≡◌, map, sym, ap, ◌∙◌}
 use Rattle.std.specs.Prelude.{reverse}
 use Rattle.std.proofs.lemmas.List.{reverse-reverse}
 use Rattle.std.proofs.lemmas.Result.{IfOk-weaker}
-use Rattle.tb_sexp.specs.Frames.{dotted, front_of}
-use Rattle.tb_sexp.specs.Tails.{ended, view_tail}
+use Rattle.tb_sexp.specs.ListShapes.{dotted, front_of}
+use Rattle.tb_sexp.specs.calls.Tails.{ended, view_tail}
 use Rattle.tb_sexp.specs.Tree.{At}
 use Rattle.tb_sexp.specs.View.{trees, view}
 use Rattle.tb_sexp.proofs.Rows.{dotted-list}

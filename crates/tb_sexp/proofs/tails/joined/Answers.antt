@@ -1,6 +1,6 @@
 use Rattle.std.proofs.Common.{◌++◌, map, ap, ◌∙◌}
 use Rattle.std.specs.Prelude.{reverse}
-use Rattle.tb_sexp.specs.Tails.{ended}
+use Rattle.tb_sexp.specs.calls.Tails.{ended}
 use Rattle.tb_sexp.specs.Tree.{At}
 use Rattle.tb_sexp.specs.View.{trees, view}
 use Rattle.tb_sexp.proofs.Rows.{trees-reversed}

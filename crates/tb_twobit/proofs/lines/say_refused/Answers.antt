@@ -1,11 +1,17 @@
-use Rattle.tb_twobit.specs.Statuses.{refused_line}
+use Rattle.std.proofs.Common.{subst}
+use Rattle.std.specs.Prelude.{codes}
+use Rattle.tb_base.specs.Outside.{PutsAll}
+use Rattle.tb_twobit.specs.Statuses.{refused_line, placed_line}
+use Rattle.tb_twobit.specs.Sinks.{sunk}
 use Rattle.tb_twobit.proofs.Parts.{said}
 use Rattle.tb_twobit.proofs.lines.say_refused.Goals as goal
 
-pub returns : goal.returns
-returns g c = said (record {
-  before = g.E.Sink.held c.args.diag.now;
-  now = g.E.Sink.held c.put_placed.new.diag;
-  faults = g.E.Sink.faults c.args.diag.now;
-  faults_now = g.E.Sink.faults c.put_placed.new.diag;
-}) (refused_line c.args.number c.args.place) c.put_placed.result c.put_placed.ensures.bytes c.put_placed.ensures.cause
+pub returns-clause-line : goal.returns-clause-line
+returns-clause-line g c =
+    said (sunk g.E.Sink.held g.E.Sink.faults c.args.diag.now c.put_placed.new.diag) (refused_line c.args.refusal)
+    c.put_placed.result
+    (subst (λ n. PutsAll (g.E.Sink.held c.args.diag.now) (g.E.Sink.held c.put_placed.new.diag) (placed_line (codes "refused ") n c.args.refusal.place) c.put_placed.result)
+    c.number.ensures c.put_placed.ensures.bytes) c.put_placed.ensures.cause
+
+pub returns-clause-later : goal.returns-clause-later
+returns-clause-later g c = c.put_placed.ensures.cause.later

@@ -1,0 +1,24 @@
+//! Small programs in A-normal form.
+ghost use Rattle.std.specs.Prelude.{◌≡◌, List, [], ◌∷◌, map};
+ghost use Rattle.tb_prim.specs.declared.event.Cause.{Cause};
+ghost use Rattle.tb_prim.specs.declared.event.Event.{Event};
+ghost use Rattle.tb_core.specs.Examples.{spot};
+ghost use Rattle.tb_ir.specs.AnfRules.{KeepsRules};
+ghost use Rattle.tb_ir.specs.AnfWidth.{all_widths as anf_widths};
+ghost use Rattle.tb_ir.specs.Width.{all_widths};
+ghost use Rattle.tb_ir.specs.Examples.{applied, complex_first, deep, dropped_string, early_read, failure_after_output, lifted_call, rest_parameter, shared_cell, tail_loop};
+ghost use Rattle.tb_anf.specs.Examples.{NormalEmits, normal};
+
+/// The events of small programs are those of their sources.
+pub fn worked_programs()
+    ensures tail_loop { NormalEmits tail_loop (Event.Enter 0 ∷ Event.Enter 0 ∷ Event.Enter 0 ∷ Event.Put 65 ∷ Event.Back ∷ Event.End ∷ []) }
+    ensures deep { NormalEmits deep (Event.Enter 0 ∷ Event.Enter 0 ∷ Event.Enter 0 ∷ Event.Back ∷ Event.Back ∷ Event.Back ∷ Event.End ∷ []) }
+    ensures shared_cell { NormalEmits shared_cell (Event.Enter 0 ∷ Event.Back ∷ Event.Enter 1 ∷ Event.Back ∷ Event.Put 66 ∷ Event.End ∷ []) }
+    ensures early_read { NormalEmits early_read (Event.Fail Cause.Undefined (spot 6) ∷ []) }
+    ensures lifted_call { NormalEmits lifted_call (Event.Enter 0 ∷ Event.Put 65 ∷ Event.Put 66 ∷ Event.Back ∷ Event.End ∷ []) }
+    ensures complex_first { NormalEmits complex_first (Event.Put 65 ∷ Event.Put 66 ∷ Event.End ∷ []) }
+    ensures rest_parameter { NormalEmits rest_parameter (Event.Enter 0 ∷ Event.Put 66 ∷ Event.Back ∷ Event.End ∷ []) }
+    ensures applied { NormalEmits applied (Event.Enter 0 ∷ Event.Put 65 ∷ Event.Back ∷ Event.End ∷ []) }
+    ensures failure_after_output { NormalEmits failure_after_output (Event.Put 65 ∷ Event.Fail Cause.WrongType (spot 3) ∷ []) }
+    ensures dropped_string { NormalEmits dropped_string (Event.End ∷ []) }
+{}

@@ -1,0 +1,7 @@
+//! A-normal form: each operation of a program is bound once, in the order in which operands are evaluated. The
+//! definition is `NormalForm`.
+#![tactic(auto)]
+
+mod examples;
+
+pub use examples::worked_programs;

@@ -1,0 +1,11 @@
+pub mod Free
+pub mod Rel
+pub mod Grow
+pub mod Envs
+pub mod Match
+pub mod Shape
+pub mod Base
+pub mod Simple
+pub mod Lines
+pub mod Nodes
+pub mod Moves

@@ -1,0 +1,17 @@
+pub mod Names
+pub mod Trees
+pub mod Splits
+pub mod Words
+pub mod Scopes
+pub mod Refusals
+pub mod Limits
+pub mod Shapes
+pub mod Expressions
+pub mod Bodies
+pub mod Means
+pub mod Outside
+pub mod Texts
+pub mod Numbers
+pub mod View
+pub mod Examples
+pub mod calls

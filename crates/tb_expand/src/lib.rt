@@ -1,0 +1,28 @@
+//! The expansion of data into the core language: what a datum means in an environment, and the first refusal in it.
+#![tactic(auto)]
+
+mod constants;
+mod context;
+mod examples;
+mod expression;
+mod form;
+mod laws;
+mod name;
+mod refusal;
+mod shapes;
+mod state;
+mod tree;
+
+pub use constants::{has_fixnums, node_has_fixnums};
+pub use context::Context;
+pub use examples::{worked_numbers, worked_refusals, worked_texts};
+pub use expression::{Build, Expression};
+pub use form::Form;
+pub use laws::{one_answer_a_datum, one_answer_a_text};
+pub use name::{Name, Variable};
+pub use refusal::ExpandRefusal;
+pub use shapes::{
+    Binder, Counted, Formals, Pair, behind, binder_of, binders_of, elements_of, formals_of, pairs_of,
+};
+pub use state::{Meaning, Scope, State, find_meaning};
+pub use tree::{Core, Node};

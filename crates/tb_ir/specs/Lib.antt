@@ -1,0 +1,16 @@
+pub mod Tree
+pub mod Plain
+pub mod AnfTree
+pub mod AnfPlain
+pub mod FreeVariables
+pub mod Machine
+pub mod TreeMachine
+pub mod AnfMachine
+pub mod Space
+pub mod Measures
+pub mod Width
+pub mod AnfWidth
+pub mod Rules
+pub mod AnfRules
+pub mod View
+pub mod Examples

@@ -1,0 +1,12 @@
+//! How far a run may go.
+
+ghost use Rattle.std.specs.Prelude.{◌≤◌};
+
+/// How far a run may go: the words of its heap, and the most steps that it makes.
+#[derive(Clone, Copy, Debug)]
+pub struct Limits {
+    pub heap: u32,
+    pub steps: u64,
+    ghost least: { 1024 ≤ heap },
+    ghost most: { heap ≤ 33554432 },
+}
