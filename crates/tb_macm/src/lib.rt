@@ -14,6 +14,8 @@ mod ports;
 mod primitives;
 mod state;
 mod step;
+#[cfg(test)]
+mod tests;
 
 pub use load::LoadRefusal;
 pub use machine::MacMachine;
