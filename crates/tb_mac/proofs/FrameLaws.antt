@@ -42,7 +42,7 @@ heap_is m = fun_ext (heap_at m)
 
 mac_is : (pc : ℕ) (registers : List Word) (ahead : Option Taken) (memory memory' : List Word) (hp hp' sp sp' : ℕ) → memory ≡ memory' → hp ≡ hp' → sp ≡ sp'
     → (let m : Mac = record { pc = pc; registers = registers; memory = memory; heap_pointer = hp; stack_pointer = sp; ahead = ahead } in
-       let m' : Mac = record { pc = pc; registers = registers; memory = memory'; heap_pointer = hp'; stack_pointer = sp'; ahead = ahead } in m ≡ m')
+    let m' : Mac = record { pc = pc; registers = registers; memory = memory'; heap_pointer = hp'; stack_pointer = sp'; ahead = ahead } in m ≡ m')
 mac_is pc registers ahead memory memory' hp hp' sp sp' e f g = cc (e, f, g)
 
 continues : (m : Framed) (m' : Mac) → flat m ≡ m' → IsFlat (Continues m) (Goes m')
@@ -234,7 +234,7 @@ returning m (f ∷ fs) =
     let M = flat (with_frames m (f ∷ fs)) in
     let e : slice_get M.memory M.stack_pointer ≡ Some f.back = ap (slice_get M.memory) z ∙ stack_word m.heap m.gap (flat_frames (f ∷ fs)) 0 in
     framing m f fs _ _ (subst (λ (o : Option Word). IsFlat (returns_to (with_frames m (f ∷ fs))) (on_some (place_in o) (stuck M) (λ x. Emits Event.Back (record M { pc = x })))) (sym e)
-      (same_some (place_in (Some f.back)) _ _ _ _ (ends (Stop.Stuck m.pc)) (λ x. shows Event.Back _ _ refl)))
+    (same_some (place_in (Some f.back)) _ _ _ _ (ends (Stop.Stuck m.pc)) (λ x. shows Event.Back _ _ refl)))
 
 popping : (m : Framed) (x : ℕ) (fs : List Frame) → IsFlat (pops x (with_frames m fs)) (pop x (flat (with_frames m fs)))
 popping m x [] = framing_none m (λ n. cond (n == x) (Goes (record (flat (with_frames m [])) { pc = m.pc + 1; stack_pointer = length m.heap + length m.gap + 2 + n })) (stuck (flat (with_frames m []))))
@@ -266,7 +266,7 @@ slot_set m f fs x w =
 
 loading_by : (b : Bool) (m : Framed) (f : Frame) (fs : List Frame) (a x : ℕ) → nat_lt x (length f.slots) ≡ b
     → (let M = flat (with_frames m (f ∷ fs)) in
-       IsFlat (loads a x (with_frames m (f ∷ fs))) (on_some (cond b (Some (length m.heap + length m.gap + 2 + x)) None) (stuck M) (λ at. on_some (slice_get M.memory at) (stuck M) (λ w. Goes (record M { pc = M.pc + 1; registers = slice_set M.registers a w })))))
+    IsFlat (loads a x (with_frames m (f ∷ fs))) (on_some (cond b (Some (length m.heap + length m.gap + 2 + x)) None) (stuck M) (λ at. on_some (slice_get M.memory at) (stuck M) (λ w. Goes (record M { pc = M.pc + 1; registers = slice_set M.registers a w })))))
 loading_by true m f fs a x e =
     let here : slice_get (f.slots ++ flat_frames fs) x ≡ slice_get f.slots x =
     sym (ap (λ (b : Bool). cond b (slice_get (f.slots ++ flat_frames fs) x) None) e) ∙ get_left f.slots (flat_frames fs) x in
@@ -282,16 +282,16 @@ loading m a x (f ∷ fs) = slot_some m f fs x _ _ (loading_by (nat_lt x (length 
 
 storing_by : (b : Bool) (m : Framed) (f : Frame) (fs : List Frame) (a x : ℕ) → nat_lt x (length f.slots) ≡ b
     → (let M = flat (with_frames m (f ∷ fs)) in
-       IsFlat (cond b (on_some (slice_get m.registers a) (halts m) (λ w. Continues (record m { pc = m.pc + 1; frames = record f { slots = slice_set f.slots x w } ∷ fs }))) (halts m))
-       (on_some (cond b (Some (length m.heap + length m.gap + 2 + x)) None) (stuck M) (λ at. on_some (slice_get m.registers a) (stuck M) (λ w. Goes (set_word at w M)))))
+    IsFlat (cond b (on_some (slice_get m.registers a) (halts m) (λ w. Continues (record m { pc = m.pc + 1; frames = record f { slots = slice_set f.slots x w } ∷ fs }))) (halts m))
+    (on_some (cond b (Some (length m.heap + length m.gap + 2 + x)) None) (stuck M) (λ at. on_some (slice_get m.registers a) (stuck M) (λ w. Goes (set_word at w M)))))
 storing_by true m f fs a x e =
     let lt : x < length f.slots = grind (arith, nat_tests, e) in
     same_some (slice_get m.registers a) _ _ _ _ (ends (Stop.Stuck m.pc)) (λ w.
-      let l : length (slice_set f.slots x w) ≡ length f.slots = length-set f.slots x w in
-      let s : slice_set f.slots x w ++ flat_frames fs ≡ slice_set (f.slots ++ flat_frames fs) x w = sym (set-append_left f.slots (flat_frames fs) x w lt) in
-      let g : m.heap ++ (m.gap ++ flat_frames (record f { slots = slice_set f.slots x w } ∷ fs)) ≡ m.heap ++ (m.gap ++ (f.back ∷ Fix (pos (length f.slots)) ∷ slice_set (f.slots ++ flat_frames fs) x w)) =
-      ap (λ (n : ℕ). m.heap ++ (m.gap ++ (f.back ∷ Fix (pos n) ∷ (slice_set f.slots x w ++ flat_frames fs)))) l ∙ ap (λ (ws : List Word). m.heap ++ (m.gap ++ (f.back ∷ Fix (pos (length f.slots)) ∷ ws))) s in
-      continues _ _ (mac_is (m.pc + 1) m.registers m.ahead _ _ _ _ _ _ (g ∙ sym (slot_set m f fs x w)) refl refl))
+    let l : length (slice_set f.slots x w) ≡ length f.slots = length-set f.slots x w in
+    let s : slice_set f.slots x w ++ flat_frames fs ≡ slice_set (f.slots ++ flat_frames fs) x w = sym (set-append_left f.slots (flat_frames fs) x w lt) in
+    let g : m.heap ++ (m.gap ++ flat_frames (record f { slots = slice_set f.slots x w } ∷ fs)) ≡ m.heap ++ (m.gap ++ (f.back ∷ Fix (pos (length f.slots)) ∷ slice_set (f.slots ++ flat_frames fs) x w)) =
+    ap (λ (n : ℕ). m.heap ++ (m.gap ++ (f.back ∷ Fix (pos n) ∷ (slice_set f.slots x w ++ flat_frames fs)))) l ∙ ap (λ (ws : List Word). m.heap ++ (m.gap ++ (f.back ∷ Fix (pos (length f.slots)) ∷ ws))) s in
+    continues _ _ (mac_is (m.pc + 1) m.registers m.ahead _ _ _ _ _ _ (g ∙ sym (slot_set m f fs x w)) refl refl))
 storing_by false m f fs a x e = ends (Stop.Stuck m.pc)
 
 storing_slot : (m : Framed) (a x : ℕ) (fs : List Frame) → IsFlat (stores a x (with_frames m fs)) (store a x (flat (with_frames m fs)))
@@ -318,7 +318,10 @@ parted (g ∷ gap) (suc n) x e =
     let p : Parted gap n x = parted gap n x (omega (arith, e)) in
     let k : suc n + 2 ≡ suc (n + 2) = omega arith in
     record {
-      first = p.first; second = p.second; front = g ∷ p.front; slots = p.slots;
+      first = p.first;
+      second = p.second;
+      front = g ∷ p.front;
+      slots = p.slots;
       whole = ap (λ (ws : List Word). g ∷ ws) p.whole;
       front_is = ap (λ (ws : List Word). g ∷ ws) p.front_is;
       slots_is = ap (λ (i : ℕ). drop i (g ∷ gap)) k ∙ p.slots_is;
@@ -329,8 +332,8 @@ parted (g ∷ gap) (suc n) x e =
 -- the words of a new frame
 saved_words : (heap gap stack : List Word) (x : ℕ) → x + 2 ≤ length gap
     → (let n = length gap - (x + 2) in
-       let sp = length heap + length gap - (x + 2) in
-       heap ++ (take n gap ++ (zero_word ∷ Fix (pos (length (drop (n + 2) gap))) ∷ (drop (n + 2) gap ++ stack))) ≡ slice_set (slice_set (heap ++ (gap ++ stack)) sp zero_word) (sp + 1) (Fix (pos x)))
+    let sp = length heap + length gap - (x + 2) in
+    heap ++ (take n gap ++ (zero_word ∷ Fix (pos (length (drop (n + 2) gap))) ∷ (drop (n + 2) gap ++ stack))) ≡ slice_set (slice_set (heap ++ (gap ++ stack)) sp zero_word) (sp + 1) (Fix (pos x)))
 saved_words heap gap stack x h =
     let n = length gap - (x + 2) in
     let p : Parted gap n x = parted gap n x (omega (arith, h)) in
@@ -379,10 +382,10 @@ performing c m (GlobalDef a x) = heap_word m x _ _ (λ w h. storing m x a w h)
 performing c m (Cell a b) = same_some (slice_get m.registers b) _ _ _ _ (ends (Stop.Stuck m.pc)) (λ w. making 3 (cell_words w) a m)
 performing c m (CellGet a b) =
     same_some (slice_get m.registers b) _ _ _ _ (ends (Stop.Stuck m.pc)) (λ u. found m (λ h. object_at h 3 26 u) _ _ _ _ (ends (Stop.Stuck m.pc)) (λ o.
-      heap_word m (o.at + 1) _ _ (λ w h. same_cond _ _ _ _ _ (failing c m Cause.Undefined) (continues _ _ refl))))
+    heap_word m (o.at + 1) _ _ (λ w h. same_cond _ _ _ _ _ (failing c m Cause.Undefined) (continues _ _ refl))))
 performing c m (CellSet a b) =
     same_some (slice_get m.registers a) _ _ _ _ (ends (Stop.Stuck m.pc)) (λ u. found m (λ h. object_at h 3 26 u) _ _ _ _ (ends (Stop.Stuck m.pc)) (λ o.
-      heap_word m (o.at + 1) _ _ (λ w h. storing m (o.at + 1) b w h)))
+    heap_word m (o.at + 1) _ _ (λ w h. storing m (o.at + 1) b w h)))
 performing c m (Clo a n x) = making 7 (new_procedure n x) a m
 performing c m (Capt a b x) =
     same_some (slice_get m.registers b) _ _ _ _ (ends (Stop.Stuck m.pc)) (λ u. found m (λ h. captured_at h x u) _ _ _ _ (ends (Stop.Stuck m.pc)) (λ at. heap_word m at _ _ (λ w h. continues _ _ refl)))
@@ -390,8 +393,8 @@ performing c m (CaptSet a b x) =
     same_some (slice_get m.registers a) _ _ _ _ (ends (Stop.Stuck m.pc)) (λ u. found m (λ h. captured_at h x u) _ _ _ _ (ends (Stop.Stuck m.pc)) (λ at. heap_word m at _ _ (λ w h. storing m at b w h)))
 performing c m Apply =
     same_some (slice_get m.registers 0) _ _ _ _ (ends (Stop.Stuck m.pc)) (λ w. found m (λ h. procedure_at h w) _ _ _ _ (failing c m Cause.NotProcedure) (λ o.
-      same_some (slice_get m.registers 1) _ _ _ _ (ends (Stop.Stuck m.pc)) (λ l.
-        subst (λ (h : Heap). IsFlat (applies_to c o m (walk_list (words_of m) l)) (apply_to c o (flat m) (walk_list h l))) (sym (heap_is m)) (applying c o m (walk_list (words_of m) l)))))
+    same_some (slice_get m.registers 1) _ _ _ _ (ends (Stop.Stuck m.pc)) (λ l.
+    subst (λ (h : Heap). IsFlat (applies_to c o m (walk_list (words_of m) l)) (apply_to c o (flat m) (walk_list h l))) (sym (heap_is m)) (applying c o m (walk_list (words_of m) l)))))
 performing c m End = ends Stop.End
 performing c m (Op0 a x) = carrying c a m _
 performing c m (Op1 a b x) = same_some (slice_get m.registers b) _ _ _ _ (ends (Stop.Stuck m.pc)) (λ u.

@@ -45,10 +45,12 @@ pub record Addressing (all : List ℕ) (next k : ℕ) (statics : List Static) (g
 pub addressing_step : (all : List ℕ) (next k size : ℕ) (statics : List Static) (goal : List ℕ) (s : Static) → k < length statics → s ≡ get_or statics k s → size ≡ static_size s → Addressing all next k statics goal → Addressing (all ++ next ∷ []) (next + size) (k + 1) statics goal
 addressing_step all next k size statics goal s lt h e p =
     let f : addresses_from next (drop k statics) ≡ next ∷ addresses_from (next + static_size s) (drop (k + 1) statics) = ap (addresses_from next) (drop_here statics k s lt h) in
-    record { rest =
-      append_assoc all (next ∷ []) (addresses_from (next + size) (drop (k + 1) statics))
-      ∙ ap (λ (n : ℕ). all ++ (next ∷ addresses_from (next + n) (drop (k + 1) statics))) e
-      ∙ sym (ap (λ (as' : List ℕ). all ++ as') f) ∙ p.rest }
+    record {
+      rest =
+          append_assoc all (next ∷ []) (addresses_from (next + size) (drop (k + 1) statics))
+          ∙ ap (λ (n : ℕ). all ++ (next ∷ addresses_from (next + n) (drop (k + 1) statics))) e
+          ∙ sym (ap (λ (as' : List ℕ). all ++ as') f) ∙ p.rest;
+    }
 
 pub addressing_end : (all : List ℕ) (next k : ℕ) (statics : List Static) (goal : List ℕ) → k ≡ length statics → Addressing all next k statics goal → all ≡ goal
 addressing_end all next k statics goal e p =

@@ -100,7 +100,13 @@ fn const_word(statics: &[Static], addresses: &[u32], constant: Const) -> Word
 }
 
 /// Writes the words of constants from `at` on.
-fn put_consts(memory: &mut [Word], at: usize, statics: &[Static], addresses: &[u32], constants: &[Const])
+fn put_consts(
+    memory: &mut [Word],
+    at: usize,
+    statics: &[Static],
+    addresses: &[u32],
+    constants: &[Const],
+)
     requires { at + length constants.now ≤ length memory.old }
     ensures { memory.new ≡ put_words at (map (const_word statics.now addresses.now) constants.now) memory.old }
 {
@@ -132,7 +138,13 @@ fn put_raw(memory: &mut [Word], at: usize, bytes: &[u8])
 
 /// Writes a vector of constants from `at` on.
 #[tactic(auto, using(crate::proofs::Layouts::put_vector_words))]
-fn put_vector(memory: &mut [Word], at: usize, statics: &[Static], addresses: &[u32], constants: &[Const])
+fn put_vector(
+    memory: &mut [Word],
+    at: usize,
+    statics: &[Static],
+    addresses: &[u32],
+    constants: &[Const],
+)
     requires room { at + padded_size (length constants.now + 1) ≤ length memory.old }
     requires small { length memory.old < 2 ^ 32 }
     ensures { memory.new ≡ put_words at (vector_words (map (const_word statics.now addresses.now) constants.now)) memory.old }
@@ -157,7 +169,13 @@ fn put_bytes(memory: &mut [Word], at: usize, kind: u8, bytes: &[u8])
 }
 
 /// Writes a static object from `at` on.
-fn put_static(memory: &mut [Word], at: usize, statics: &[Static], addresses: &[u32], object: &Static)
+fn put_static(
+    memory: &mut [Word],
+    at: usize,
+    statics: &[Static],
+    addresses: &[u32],
+    object: &Static,
+)
     requires room { at + static_size object.now ≤ length memory.old }
     requires small { length memory.old < 2 ^ 30 }
     ensures { memory.new ≡ put_words at (static_words statics.now addresses.now object.now) memory.old }

@@ -42,7 +42,12 @@ impl From<NoMemory> for LoadRefusal {
 }
 
 /// The memory before the first step.
-fn start_memory(alloc: Global, parts: &Parts, heap_words: u32, placed: &[u32]) -> Result<Vec<Word>, AllocError>
+fn start_memory(
+    alloc: Global,
+    parts: &Parts,
+    heap_words: u32,
+    placed: &[u32],
+) -> Result<Vec<Word>, AllocError>
     requires fits { start_size parts.now ≤ heap_words }
     requires most { heap_words ≤ 33554432 }
     requires placed { placed.now ≡ addresses parts.now }
@@ -66,7 +71,11 @@ impl<'a> MacMachine<'a> {
     /// the static objects, and fixnums 0. HeapSmall where the words of globals and static objects plus 64
     /// exceed the memory's; it is found before memory is asked for.
     #[tactic(auto, using(crate::proofs::Layouts::length_start_words))]
-    pub fn load(alloc: Global, code: &'a MacCode, heap_words: u32) -> Result<MacMachine<'a>, LoadRefusal>
+    pub fn load(
+        alloc: Global,
+        code: &'a MacCode,
+        heap_words: u32,
+    ) -> Result<MacMachine<'a>, LoadRefusal>
         requires least { 1024 ≤ heap_words }
         requires most { heap_words ≤ 33554432 }
         requires fits { start_size code.now.parts < 2 ^ 32 }

@@ -49,10 +49,29 @@ fn countdown(alloc: Global) -> Result<MacCode, AllocError>
     ensures { IfOk result (λ c. start_size c.parts ≡ 0) }
 {
     let code = vec![in alloc;
-        Instr::Imm(1, 4_000_000), Instr::Imm(2, 4), Instr::Imm(3, 0), Instr::Op2(4, 1, 3, 23), Instr::Brf(4, 8),
-        Instr::Imm(1, 24842), Instr::Op1(16, 1, 42), Instr::End, Instr::Op2(1, 1, 2, 18), Instr::Jump(3)]?;
-    let maps = vec![in alloc; no_map(), no_map(), no_map(), no_map(), no_map(), no_map(), no_map(), no_map(), no_map(),
-        no_map()]?;
+        Instr::Imm(1, 4_000_000),
+        Instr::Imm(2, 4),
+        Instr::Imm(3, 0),
+        Instr::Op2(4, 1, 3, 23),
+        Instr::Brf(4, 8),
+        Instr::Imm(1, 24842),
+        Instr::Op1(16, 1, 42),
+        Instr::End,
+        Instr::Op2(1, 1, 2, 18),
+        Instr::Jump(3),
+    ]?;
+    let maps = vec![in alloc;
+        no_map(),
+        no_map(),
+        no_map(),
+        no_map(),
+        no_map(),
+        no_map(),
+        no_map(),
+        no_map(),
+        no_map(),
+        no_map(),
+    ]?;
     let places = vec![in alloc; placed(3), placed(6), placed(8)]?;
     Ok(MacCode {
         parts: no_parts(alloc),

@@ -1,6 +1,5 @@
 use Rattle.std.proofs.Common.{◌+◌}
-use Rattle.tb_mac.specs.Layout.{statics_size, all_words}
-use Rattle.tb_mac.specs.MacStep.{put_words}
+use Rattle.tb_mac.specs.Layout.{statics_size}
 use Rattle.tb_macm.proofs.Layouts.{placing_step, summing_step}
 use Rattle.tb_macm.proofs.layout.put_statics.Goals as goal
 

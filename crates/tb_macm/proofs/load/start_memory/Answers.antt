@@ -1,5 +1,4 @@
-use Rattle.std.proofs.Common.{rules, ◌≡◌, List, length, replicate, ◌∙◌, arith}
-use Rattle.tb_mac.specs.declared.word.Word.{Word}
+use Rattle.std.proofs.Common.{rules, ◌≡◌, length, replicate, ◌∙◌, arith}
 use Rattle.tb_mac.specs.Layout.{addresses}
 use Rattle.tb_mac.specs.MacStep.{put_words}
 use Rattle.tb_mac.specs.Words.{zero_word}

@@ -1,5 +1,5 @@
-use Rattle.std.proofs.Common.{◌≡◌, ℕ, List, [], ◌∷◌, length, refl, sym, subst, ◌∙◌, ap, lit<, lit≤}
-use Rattle.std.specs.Prelude.{slice_get, All, Some}
+use Rattle.std.proofs.Common.{◌≡◌, ℕ, List, [], ◌∷◌, refl, sym, subst, ◌∙◌, lit<, lit≤}
+use Rattle.std.specs.Prelude.{All}
 use Rattle.std.proofs.lemmas.List.Elements.{All-cons, All-nil}
 use Rattle.tb_mac.specs.declared.code.Instr.{Instr}
 use Rattle.tb_mac.specs.declared.code.Instr.TheVariants.{Imm, Op1, Op2, Brf, Jump, End}
@@ -7,7 +7,7 @@ use Rattle.tb_mac.specs.declared.code.LambdaEntry.{LambdaEntry}
 use Rattle.tb_mac.specs.declared.code.LiveMap.{LiveMap}
 use Rattle.tb_mac.specs.declared.code.PlaceEntry.{PlaceEntry}
 use Rattle.tb_mac.specs.declared.code.Parts.{Parts}
-use Rattle.tb_mac.specs.Rules.{EntryOk, InstrOk, MapOk, KeepsRules, PartsOk}
+use Rattle.tb_mac.specs.Rules.{EntryOk, InstrOk, MapOk, KeepsRules}
 use Rattle.tb_macm.proofs.tests.countdown.Goals as goal
 
 -- the code
