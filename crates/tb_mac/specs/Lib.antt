@@ -5,7 +5,12 @@ pub mod Rules
 pub mod Effects
 pub mod Assembled
 pub mod MacStep
+pub mod Frames
+pub mod LiveWords
 pub mod MacEvents
+pub mod FramedRuns
+pub mod Scrubbed
 pub mod Bounds
 pub mod Examples
 pub mod CodeOf
+pub mod calls

@@ -284,7 +284,7 @@ set_captured a b x m = with_captured m a x (λ at w. with_register m b (λ u. Go
 abbrev pub carry_out : Assembled → ℕ → Mac → Effect → Outcome
 carry_out c a m (Gives w) = Goes (set_register a w m)
 carry_out c a m (Makes tag ws) = make tag ws a m
-carry_out c a m (Changes at w) = Goes (set_register a unspecified (record m { memory = slice_set m.memory at w }))
+carry_out c a m (Changes at w) = on_some (heap_of m at) (stuck m) (λ old. Goes (set_register a unspecified (record m { memory = slice_set m.memory at w })))
 carry_out c a m (Puts b) = Emits (Event.Put b) (set_register a unspecified m)
 carry_out c a m Takes = TakesTo a
 carry_out c a m Peeks = PeeksTo a

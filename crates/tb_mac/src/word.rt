@@ -47,7 +47,10 @@ pub fn same_word(first: Word, second: Word) -> bool
         (Word::Header(k, n), Word::Header(l, m)) => k == l && n == m,
         (Word::Pointer(s, a), Word::Pointer(t, b)) => s == t && a == b,
         (Word::Code(i), Word::Code(j)) => i == j,
-        (Word::Raw(b), Word::Raw(c)) => b[0] == c[0] && b[1] == c[1] && b[2] == c[2] && b[3] == c[3],
+        (Word::Raw(b), Word::Raw(c)) => b[0] == c[0]
+            && b[1] == c[1]
+            && b[2] == c[2]
+            && b[3] == c[3],
         _ => false,
     }
 }

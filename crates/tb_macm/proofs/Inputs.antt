@@ -1,5 +1,5 @@
 -- What comes next in the input.
-use Rattle.std.proofs.Common.{◌≡◌, ℕ, zero, suc, ◌<◌, ◌≤◌, List, [], ◌∷◌, length, take, drop, get_or, Option, Some, None, refl, sym, ap, ◌∙◌, arith}
+use Rattle.std.proofs.Common.{◌≡◌, ℕ, zero, suc, ◌<◌, ◌≤◌, List, [], ◌∷◌, length, get_or, Option, Some, None, refl, sym, ap, arith}
 use Rattle.std.specs.Prelude.{Ok}
 use Rattle.tb_prim.specs.declared.event.Taken.{Taken}
 use Rattle.tb_base.specs.Outside.{Takes, TakesFirst}

@@ -5,3 +5,4 @@ pub mod StepLaws
 pub mod StepRules
 pub mod Uses
 pub mod RunLaws
+pub mod Layouts

@@ -1,12 +1,12 @@
 -- Words and lists that are written, and lists that are walked, one word after the other.
-use Rattle.std.proofs.Common.{◌≡◌, ℕ, zero, suc, ◌+◌, ◌-◌, ◌*◌, ◌<◌, ◌≤◌, Bool, true, false, cond, nat_lt, List, [], ◌∷◌, ◌++◌, length, take, drop, get_or, slice_set, Option, Some, None, refl, sym, ap, subst, ◌∙◌, arith, append-nil}
+use Rattle.std.proofs.Common.{◌≡◌, ℕ, zero, suc, ◌+◌, ◌-◌, ◌*◌, ◌<◌, ◌≤◌, Bool, true, false, cond, nat_lt, List, [], ◌∷◌, ◌++◌, length, take, drop, get_or, slice_set, Option, Some, None, refl, sym, ap, ◌∙◌, arith, append-nil}
 use Rattle.std.proofs.Math.Seq.{drop-cons}
 use Rattle.std.proofs.lemmas.Bool.Decides.{nat_tests}
 use Rattle.std.proofs.lemmas.List.{take_more_set, length-set, length-take, length-drop}
 use Rattle.std.specs.Prelude.{slice_range}
 use Rattle.tb_prim.specs.declared.event.Cause.{Cause}
 use Rattle.tb_mac.specs.declared.word.Word.{Word}
-use Rattle.tb_mac.specs.declared.word.Word.TheVariants.{Special, Pointer}
+use Rattle.tb_mac.specs.declared.word.Word.TheVariants.{Pointer}
 use Rattle.tb_mac.specs.Effects.{Heap, pair_at}
 use Rattle.tb_mac.specs.MacStep.{Mac, rest_list, request, put_words, list_at, list_words, Walked, Elements, NoList, NoWord, with_element, ends_list, walked, walk_list}
 use Rattle.tb_mac.specs.Words.{on_some, empty_list, same_word}
@@ -132,8 +132,8 @@ walking_by (suc left) count at heap list rest u v elements p h g lt len e i = re
   ends = omega (arith, e);
   size = omega (arith, len, length-set elements count u);
   is = i ∙ ap (with_elements (take count elements)) (walked_pair heap left at rest u v p h g)
-    ∙ sym (with_elements-more (take count elements) u (walked heap left v))
-    ∙ sym (ap (λ (us : List Word). with_elements us (walked heap left v)) (take_more_set elements count u (omega (arith, lt, len))));
+      ∙ sym (with_elements-more (take count elements) u (walked heap left v))
+      ∙ sym (ap (λ (us : List Word). with_elements us (walked heap left v)) (take_more_set elements count u (omega (arith, lt, len))));
 }
 
 pub walking_step : (heap : Heap) (list rest u v : Word) (count at : ℕ) (elements : List Word) → Some at ≡ pair_at rest → Some u ≡ heap at → Some v ≡ heap (at + 1) → count < 12 → Walking heap list rest count elements → Walking heap list v (count + 1) (slice_set elements count u)

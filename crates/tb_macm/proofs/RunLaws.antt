@@ -1,6 +1,5 @@
 -- Runs of the interpreter as runs of the definition.
 use Rattle.std.proofs.Common.{◌≡◌, ℕ, ◌+◌, ◌≤◌, ◌<◌, Bool, true, false, List, [], ◌∷◌, ◌++◌, All, Option, Some, None, IfSome, refl, sym, ap, ◌∙◌, subst, arith, append_assoc, append-nil, inl, inr}
-use Rattle.std.specs.Prelude.{IsSome}
 use Rattle.std.proofs.lemmas.List.Elements.{All-append, All-cons, All-nil}
 use Rattle.tb_prim.specs.declared.event.Event.{Event}
 use Rattle.tb_prim.specs.declared.event.Event.TheVariants as E
@@ -12,13 +11,13 @@ use Rattle.tb_semantics.specs.Runs.{run}
 use Rattle.tb_semantics.proofs.RunLaws.{run-add}
 use Rattle.tb_mac.specs.Assembled.{Assembled}
 use Rattle.tb_mac.specs.MacStep.{Mac, Outcome, Goes, Emits, TakesTo, PeeksTo, Stepped, Went, Stopped, Stops, with_input, fetched, mac_step}
-use Rattle.tb_mac.specs.MacEvents.{MacState, Going, Halted, with_stop, with_event, next_state, next}
+use Rattle.tb_mac.specs.MacEvents.{MacState, Going, with_event, next_state, next}
 use Rattle.tb_macm.specs.declared.step.Step.{Step}
-use Rattle.tb_macm.specs.Steps.{Adds, Faults, Made, ReadFails, WriteFails, Rests, StepDoes, asks, byte_put, bytes_of, told}
-use Rattle.tb_macm.specs.RunDoes.{IsPassing, Reached, Counted, StandsAt, RunDoes, going, halted, puts}
+use Rattle.tb_macm.specs.Steps.{Adds, Faults, Made, Rests, StepDoes, bytes_of, told}
+use Rattle.tb_macm.specs.RunDoes.{IsPassing, Reached, Counted, StandsAt, RunDoes, halted, puts}
 use Rattle.tb_macm.proofs.StepLaws.{adds_nothing}
-use Rattle.tb_macm.proofs.StepRules.{IsOwn, IsLawful, OutcomeOk, fetched-ok}
-use Rattle.tb_macm.proofs.Uses.{Same, TakesByte, MeetsEnd, Uses, uses, same_event}
+use Rattle.tb_macm.proofs.StepRules.{IsOwn, IsLawful, fetched-ok}
+use Rattle.tb_macm.proofs.Uses.{uses, same_event}
 
 -- a source that told these bytes has had the first of them taken, all of them where the end was met
 pub record Taken-from (used : List ℕ) (ended : Bool) (bytes : List ℕ) (left : Option (List ℕ)) : Type 0 where
@@ -94,10 +93,22 @@ passing-event c m new input rest e es h p = passing-one e es (passing-outcome m 
 -- before the first step
 pub running_start : (c : Assembled) (m : Mac) (left held : Option (List ℕ)) → Running c m 0 m left left held held
 running_start c m None held = record {
-  used = []; ended = false; events = []; passing = All-nil IsPassing; reached = λ rest q. refl; ahead = λ q. absurd (cc q); source = tt; put = adds_nothing held;
+  used = [];
+  ended = false;
+  events = [];
+  passing = All-nil IsPassing;
+  reached = λ rest q. refl;
+  ahead = λ q. absurd (cc q);
+  source = tt;
+  put = adds_nothing held;
 }
 running_start c m (Some bytes) held = record {
-  used = []; ended = false; events = []; passing = All-nil IsPassing; reached = λ rest q. refl; ahead = λ q. absurd (cc q);
+  used = [];
+  ended = false;
+  events = [];
+  passing = All-nil IsPassing;
+  reached = λ rest q. refl;
+  ahead = λ q. absurd (cc q);
   source = record { rest = bytes; whole = refl; now = refl; end = λ q. absurd (cc q) };
   put = adds_nothing held;
 }
@@ -132,32 +143,41 @@ running_step c old now new n l l' l'' h h' h'' e r m p =
     let put : Adds h h'' (puts (with_event e r.events)) = subst (λ v. Adds h h'' v) (sym (puts-event e r.events)) (adds-adds h h' h'' (puts r.events) (bytes_of e) r.put p) in
     elim (uses c now new m.input m.rest e m.step) [
       | inl s ↦ record {
-          used = r.used; ended = r.ended; events = with_event e r.events; passing = passing;
-          reached = λ rest q. reached_next c old now n (r.used ++ rest) rest r.events (Went e new rest) (r.reached rest q) (s.is rest);
-          ahead = λ q. s.end (r.ahead q);
-          source = source_same l l' l'' r.used m.input m.rest r.ended r.source m.told s.stays;
-          put = put;
-        }
+        used = r.used;
+        ended = r.ended;
+        events = with_event e r.events;
+        passing = passing;
+        reached = λ rest q. reached_next c old now n (r.used ++ rest) rest r.events (Went e new rest) (r.reached rest q) (s.is rest);
+        ahead = λ q. s.end (r.ahead q);
+        source = source_same l l' l'' r.used m.input m.rest r.ended r.source m.told s.stays;
+        put = put;
+      }
       | inr (inl b) ↦
-        let unmet : r.ended ≡ true → ⊥ = λ q. absurd (cc (r.ahead q, b.nothing)) in
-        record {
-          used = r.used ++ b.byte ∷ []; ended = r.ended; events = with_event e r.events; passing = passing;
-          reached = λ rest q.
-            let a : r.used ++ (b.byte ∷ rest) ≡ (r.used ++ b.byte ∷ []) ++ rest = sym (append_assoc r.used (b.byte ∷ []) rest) in
-            sym (ap (λ (i : List ℕ). run (next c) (n + 1) (Going old i [])) a)
-            ∙ reached_next c old now n (r.used ++ (b.byte ∷ rest)) (b.byte ∷ rest) r.events (Went e new rest) (r.reached (b.byte ∷ rest) (λ k. absurd (unmet k))) (b.is rest);
-          ahead = λ q. absurd (unmet q);
-          source = source_byte l l' l'' r.used m.input m.rest r.ended b.byte r.source m.told b.begins unmet;
-          put = put;
-        }
+          let unmet : r.ended ≡ true → ⊥ = λ q. absurd (cc (r.ahead q, b.nothing)) in
+          record {
+            used = r.used ++ b.byte ∷ [];
+            ended = r.ended;
+            events = with_event e r.events;
+            passing = passing;
+            reached = λ rest q.
+                let a : r.used ++ (b.byte ∷ rest) ≡ (r.used ++ b.byte ∷ []) ++ rest = sym (append_assoc r.used (b.byte ∷ []) rest) in
+                sym (ap (λ (i : List ℕ). run (next c) (n + 1) (Going old i [])) a)
+                ∙ reached_next c old now n (r.used ++ (b.byte ∷ rest)) (b.byte ∷ rest) r.events (Went e new rest) (r.reached (b.byte ∷ rest) (λ k. absurd (unmet k))) (b.is rest);
+            ahead = λ q. absurd (unmet q);
+            source = source_byte l l' l'' r.used m.input m.rest r.ended b.byte r.source m.told b.begins unmet;
+            put = put;
+          }
       | inr (inr z) ↦ record {
-          used = r.used; ended = true; events = with_event e r.events; passing = passing;
-          reached = λ rest q. subst (λ (i : List ℕ). run (next c) (n + 1) (Going old (r.used ++ i) []) ≡ Going new i (with_event e r.events)) (sym (q refl))
+        used = r.used;
+        ended = true;
+        events = with_event e r.events;
+        passing = passing;
+        reached = λ rest q. subst (λ (i : List ℕ). run (next c) (n + 1) (Going old (r.used ++ i) []) ≡ Going new i (with_event e r.events)) (sym (q refl))
             (reached_next c old now n (r.used ++ []) [] r.events (Went e new []) (r.reached [] (λ k. refl)) z.is);
-          ahead = λ q. z.end;
-          source = source_end l l' l'' r.used m.input m.rest r.ended r.source m.told z.empty z.stays;
-          put = put;
-        }
+        ahead = λ q. z.end;
+        source = source_end l l' l'' r.used m.input m.rest r.ended r.source m.told z.empty z.stays;
+        put = put;
+      }
     ]
 
 -- the rest of the input where a run stops
@@ -198,21 +218,39 @@ run_stopped c old now new n steps f g k l l' l'' h h' h'' s r lt later later' d 
     let put : Adds h h'' (puts r.events) = adds-nothing h h' h'' (puts r.events) r.put d.3 in
     subst (λ m. RunDoes c old m l l'' h h'' f k steps s) (sym d.1) (elim d.0 [
       | inl e ↦ record {
-          taken = n + 1; input = r.used ++ close.rest; rest = close.rest; events = r.events; within = omega (arith, lt); told = close.told; passing = r.passing;
-          stands = stands_stopped c _ (record { mac = now; rest = close.rest; events = r.events }) (record { taken = n + 1; allowed = steps }) f k s (own_stop c now s e)
+        taken = n + 1;
+        input = r.used ++ close.rest;
+        rest = close.rest;
+        events = r.events;
+        within = omega (arith, lt);
+        told = close.told;
+        passing = r.passing;
+        stands = stands_stopped c _ (record { mac = now; rest = close.rest; events = r.events }) (record { taken = n + 1; allowed = steps }) f k s (own_stop c now s e)
             (reached_next c old now n (r.used ++ close.rest) close.rest r.events (Stopped s) here (ap (with_input now close.rest) e));
-          put = put;
-        }
+        put = put;
+      }
       | inr (inl w) ↦ subst (λ v. RunDoes c old now l l'' h h'' f k steps v) (sym w.stop) (record {
-          taken = n; input = r.used ++ close.rest; rest = close.rest; events = r.events; within = omega (arith, lt); told = close.told; passing = r.passing;
-          stands = record { goes = here; before = lt; asks = w.asks; rose = rose_from f.read g.read k.read later w.rose };
-          put = put;
-        })
+        taken = n;
+        input = r.used ++ close.rest;
+        rest = close.rest;
+        events = r.events;
+        within = omega (arith, lt);
+        told = close.told;
+        passing = r.passing;
+        stands = record { goes = here; before = lt; asks = w.asks; rose = rose_from f.read g.read k.read later w.rose };
+        put = put;
+      })
       | inr (inr w) ↦ subst (λ v. RunDoes c old now l l'' h h'' f k steps v) (sym w.stop) (record {
-          taken = n; input = r.used ++ close.rest; rest = close.rest; events = r.events; within = omega (arith, lt); told = close.told; passing = r.passing;
-          stands = record { goes = here; before = lt; puts = w.puts; rose = rose_from f.write g.write k.write later' w.rose };
-          put = put;
-        })
+        taken = n;
+        input = r.used ++ close.rest;
+        rest = close.rest;
+        events = r.events;
+        within = omega (arith, lt);
+        told = close.told;
+        passing = r.passing;
+        stands = record { goes = here; before = lt; puts = w.puts; rose = rose_from f.write g.write k.write later' w.rose };
+        put = put;
+      })
     ])
 
 -- the run has made all its steps
@@ -220,7 +258,13 @@ pub run_made : (c : Assembled) (old now : Mac) (n steps : ℕ) (f k : Faults) (l
 run_made c old now n steps f k l l' h h' r e =
     let close : Closing r.used r.ended l l' = closing r.used r.ended l l' r.source in
     record {
-      taken = n; input = r.used ++ close.rest; rest = close.rest; events = r.events; within = omega (arith, e); told = close.told; passing = r.passing;
+      taken = n;
+      input = r.used ++ close.rest;
+      rest = close.rest;
+      events = r.events;
+      within = omega (arith, e);
+      told = close.told;
+      passing = r.passing;
       stands = record { goes = r.reached close.rest close.fits; all = e };
       put = r.put;
     }

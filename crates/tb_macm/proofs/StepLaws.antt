@@ -1,10 +1,10 @@
 -- Steps without input or output, and those that read or write, as steps that may do both.
-use Rattle.std.proofs.Common.{◌≡◌, ℕ, List, [], ◌∷◌, ◌++◌, Option, Some, None, refl, sym, ap, subst, inl, inr, append-nil}
+use Rattle.std.proofs.Common.{◌≡◌, ℕ, List, [], Option, Some, None, refl, sym, ap, subst, inl, inr, append-nil}
 use Rattle.tb_prim.specs.declared.event.Event.{Event}
 use Rattle.tb_prim.specs.declared.event.Event.TheVariants as E
 use Rattle.tb_macm.specs.declared.step.Step.{Step}
-use Rattle.tb_mac.specs.MacStep.{Mac, Outcome, Goes, Emits, with_input}
-use Rattle.tb_macm.specs.Steps.{StepDoes, Adds, Made, Faults, Rests, byte_of, bytes_of, told}
+use Rattle.tb_mac.specs.MacStep.{Mac, Outcome, with_input}
+use Rattle.tb_macm.specs.Steps.{StepDoes, Adds, Faults, byte_of, bytes_of, told}
 use Rattle.tb_macm.specs.calls.Quiet.{Does, InputDoes, OutputDoes, ReadDoes, WriteDoes, byte_of_some}
 use Rattle.tb_macm.proofs.Inputs.{rests_self}
 

@@ -1,12 +1,10 @@
 -- What a step of the definition can come to.
-use Rattle.std.proofs.Common.{◌≡◌, ℕ, ◌+◌, ◌-◌, ◌==◌, Bool, true, false, cond, nat_lt, nat_le, List, [], ◌∷◌, length, Option, Some, None, slice_get, refl, sym, ◌∙◌, ap, subst}
+use Rattle.std.proofs.Common.{◌≡◌, ℕ, Bool, true, false, cond, Option, Some, None, slice_get}
 use Rattle.std.specs.Prelude.{ℤ, pos, negsuc}
 use Rattle.tb_prim.specs.declared.event.Cause.{Cause}
 use Rattle.tb_prim.specs.declared.event.Event.{Event}
-use Rattle.tb_prim.specs.declared.event.Event.TheVariants as E
 use Rattle.tb_prim.specs.declared.event.Stop.{Stop}
 use Rattle.tb_prim.specs.declared.event.Stop.TheVariants as S
-use Rattle.tb_prim.specs.declared.event.Taken.{Taken}
 use Rattle.tb_mac.specs.declared.word.Word.{Word}
 use Rattle.tb_mac.specs.declared.word.Word.TheVariants.{Fix, Special, Char, Header, Pointer, Code, Raw}
 use Rattle.tb_mac.specs.declared.word.Placed.{Placed}
@@ -14,7 +12,7 @@ use Rattle.tb_mac.specs.declared.code.Instr.{Instr}
 use Rattle.tb_mac.specs.declared.code.Instr.TheVariants.{Proc, Args, ArgsGe, Save, SetRtn, Load, Store, Pop, Return, Invoke, Jump, Brf, Imm, Stat, Move, GlobalGet, GlobalSet, GlobalDef, Cell, CellGet, CellSet, Clo, Capt, CaptSet, Apply, End, Op0, Op1, Op2, Op3}
 use Rattle.tb_mac.specs.Assembled.{Assembled}
 use Rattle.tb_mac.specs.Effects.{Effect, Gives, Makes, Changes, Puts, Takes, Peeks, Fails, NoNextStep}
-use Rattle.tb_mac.specs.MacStep.{Mac, Outcome, Goes, Emits, TakesTo, PeeksTo, Stops, Walked, Elements, NoList, NoWord, stuck, fail, request, enter, apply_to, walk_list, heap_of, carry_out, rest_args, on_fixnum, perform, fetched}
+use Rattle.tb_mac.specs.MacStep.{Mac, Outcome, Goes, Emits, TakesTo, PeeksTo, Stops, Walked, Elements, NoList, NoWord, stuck, fail, request, apply_to, carry_out, rest_args, on_fixnum, perform, fetched}
 use Rattle.tb_mac.specs.Words.{on_some}
 use Rattle.tb_macm.specs.RunDoes.{IsPassing}
 

@@ -3,7 +3,7 @@ use Rattle.std.proofs.Common.{◌≡◌, ℕ, List, [], ◌∷◌, Option, Some,
 use Rattle.tb_prim.specs.declared.event.Event.{Event}
 use Rattle.tb_prim.specs.declared.event.Taken.{Taken}
 use Rattle.tb_mac.specs.Assembled.{Assembled}
-use Rattle.tb_mac.specs.MacStep.{Mac, Outcome, Goes, Emits, TakesTo, PeeksTo, Stops, Stepped, Went, Stopped, with_input, fetched, mac_step, next_taken, rest_after, received, kept_ahead}
+use Rattle.tb_mac.specs.MacStep.{Mac, Outcome, Goes, Emits, TakesTo, PeeksTo, Stops, Stepped, Went, with_input, fetched, mac_step, next_taken, rest_after, received, kept_ahead}
 use Rattle.tb_macm.proofs.StepRules.{OutcomeOk, fetched-ok}
 
 -- the same step with every input, which stays

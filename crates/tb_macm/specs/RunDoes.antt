@@ -8,7 +8,7 @@ use Rattle.tb_base.specs.Outside.{Rose}
 use Rattle.tb_semantics.specs.Runs.{run}
 use Rattle.tb_mac.specs.Assembled.{Assembled}
 use Rattle.tb_mac.specs.MacStep.{Mac, fetched}
-use Rattle.tb_mac.specs.MacEvents.{MacState, Going, Halted, with_stop, next, events_of}
+use Rattle.tb_mac.specs.MacEvents.{MacState, Going, Halted, with_stop, next}
 use Rattle.tb_macm.specs.Steps.{Adds, Faults, Rests, asks, byte_put}
 
 -- the event is neither an end nor a failure

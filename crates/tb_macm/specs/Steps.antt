@@ -5,7 +5,7 @@ use Rattle.tb_prim.specs.declared.event.Event.TheVariants as E
 use Rattle.tb_prim.specs.declared.event.Stop.{Stop}
 use Rattle.tb_prim.specs.declared.event.Taken.{Taken}
 use Rattle.tb_base.specs.Outside.{Rose}
-use Rattle.tb_mac.specs.MacStep.{Mac, Outcome, Goes, Emits, TakesTo, PeeksTo, Stops, Went, with_input}
+use Rattle.tb_mac.specs.MacStep.{Mac, Outcome, Emits, TakesTo, PeeksTo, Stops, Went, with_input}
 use Rattle.tb_macm.specs.declared.step.Step.{Step}
 
 -- the byte that an event puts, if it puts one

@@ -39,7 +39,11 @@ fn write_list(memory: &mut [Word], at: usize, words: &[Word])
 fn list_at(at: u32, more: bool) -> Word
     ensures { result ≡ cond more (Word.Pointer 1 at) empty_list }
 {
-    if more { Word::Pointer(1, at) } else { Word::Special(2) }
+    if more {
+        Word::Pointer(1, at)
+    } else {
+        Word::Special(2)
+    }
 }
 
 /// The list ends with this word: after `count` elements, or it is no list.

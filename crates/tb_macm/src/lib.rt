@@ -5,6 +5,8 @@
 mod answer;
 mod arithmetic;
 mod calls;
+mod layout;
+mod load;
 mod machine;
 mod objects;
 mod perform;
@@ -12,6 +14,9 @@ mod ports;
 mod primitives;
 mod state;
 mod step;
+#[cfg(test)]
+mod tests;
 
+pub use load::LoadRefusal;
 pub use machine::MacMachine;
 pub use step::Step;

@@ -51,9 +51,10 @@ impl State {
         requires room { self.old.pc < 2 ^ 24 }
         ensures result { result ≡ Step.Went None }
         ensures state { let m = mac_of self.old in mac_of self.new ≡ record m {
-            pc = m.pc + 1;
-            registers = slice_set m.registers a (Word.Pointer tag m.heap_pointer);
-            heap_pointer = m.heap_pointer + need } }
+          pc = m.pc + 1;
+          registers = slice_set m.registers a (Word.Pointer tag m.heap_pointer);
+          heap_pointer = m.heap_pointer + need;
+        } }
     {
         self.registers[a as usize] = Word::Pointer(tag, self.heap_pointer);
         self.heap_pointer += need;

@@ -81,7 +81,11 @@ impl State {
     {
         match primitive_at(x) {
             Some(prim) => {
-                let answer = self.binary(prim, self.registers[b as usize], self.registers[c as usize]);
+                let answer = self.binary(
+                    prim,
+                    self.registers[b as usize],
+                    self.registers[c as usize],
+                );
                 self.carry_out(code, a, answer)
             }
             None => self.stuck(),

@@ -8,8 +8,8 @@ ghost use Rattle.tb_macm.specs.calls.Quiet.{IsWithin, effect_of};
 use super::Step;
 use super::answer::Answer;
 use super::arithmetic::{
-    at_most, boolean, char_of_code, character, code_of_char, difference, equal, integer, is_special, less,
-    modulo, product, quotient, remainder, sum, truth,
+    at_most, boolean, char_of_code, character, code_of_char, difference, equal, integer,
+    is_special, less, modulo, product, quotient, remainder, sum, truth,
 };
 use super::calls::pair_at;
 use super::state::State;

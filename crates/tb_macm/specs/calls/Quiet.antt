@@ -1,7 +1,6 @@
 -- What the parts of a step do: those without input and output, and those with.
-use Rattle.std.specs.Prelude.{◌≡◌, ◌≢◌, ◌⊎◌, ◌<◌, ◌≤◌, ℕ, List, [], ◌∷◌, ◌++◌, take, Bool, Option, Some, None, Result, Ok, Err}
+use Rattle.std.specs.Prelude.{◌≡◌, ◌⊎◌, ◌<◌, ◌≤◌, ℕ, List, [], take, Option, Some, None, Result, Ok, Err}
 use Rattle.tb_prim.specs.declared.event.Event.{Event}
-use Rattle.tb_prim.specs.declared.event.Stop.{Stop}
 use Rattle.tb_prim.specs.declared.event.Taken.{Taken}
 use Rattle.tb_base.specs.Outside.{Rose}
 use Rattle.tb_base.specs.declared.outside.Failed.{Failed}

@@ -1,4 +1,4 @@
-use Rattle.std.proofs.Common.{◌≡◌, arith}
+use Rattle.std.proofs.Common.{arith}
 use Rattle.std.proofs.lemmas.Grind.{common_steps}
 use Rattle.tb_macm.specs.States.{mac_of}
 use Rattle.tb_macm.proofs.Lists.{rest_list_is}

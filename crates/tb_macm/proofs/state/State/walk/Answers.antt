@@ -1,5 +1,4 @@
 use Rattle.std.proofs.Common.{◌≡◌, ℕ, ap, subst, ◌∙◌, arith}
-use Rattle.tb_mac.specs.Effects.{Heap}
 use Rattle.tb_mac.specs.MacStep.{heap_of}
 use Rattle.tb_macm.specs.declared.answer.Walk.{Walk}
 use Rattle.tb_macm.specs.States.{mac_of}
