@@ -6,3 +6,4 @@ pub mod Ends
 pub mod OneAnswer
 pub mod Lookups
 pub mod Rows
+pub mod Reading

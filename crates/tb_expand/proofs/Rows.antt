@@ -9,7 +9,7 @@ use Rattle.tb_expand.specs.declared.shapes.Binder.{Binder as BinderCode}
 use Rattle.tb_expand.specs.Shapes.{binder_of, binders_of, and_binder}
 use Rattle.tb_expand.specs.declared.shapes.Pair.{Pair as PairCode}
 use Rattle.tb_expand.specs.Shapes.{Pair, Pairs, pair_in, pairs_of, and_pair, elements_of}
-use Rattle.tb_expand.specs.View.{data_of, view_binder, view_pair, view_pairs}
+use Rattle.tb_expand.specs.View.{data_of, view_binder, view_pair, view_pairs, NoBody}
 
 pub one_datum : (ds : List Datum) (a : Datum) → length ds ≡ 1 → data_of ds ≡ datum.more (data_view.view (get_or ds 0 a)) datum.none
 one_datum [] a h = absurd (omega arith)
@@ -121,3 +121,8 @@ pairs_alone (x ∷ bs) = ap (λ (qs : Pairs). record { binders = view_binder x.b
 
 pub pairs_put : (ds : List Datum) (i : ℕ) (bs : List PairCode) (z : Option Pairs) → length ds ≤ i → before_pairs bs (pairs_of (data_of (drop i ds))) ≡ z → z ≡ Some (view_pairs bs)
 pairs_put ds i bs z le h = sym h ∙ ap (λ xs. before_pairs bs (pairs_of (data_of xs))) (drop_none ds i le) ∙ ap Some (pairs_alone bs)
+
+pub no_body : (ds : List Datum) → length ds < 2 → NoBody (data_of ds)
+no_body [] h = tt
+no_body (x ∷ []) h = tt
+no_body (x ∷ y ∷ ds) h = absurd (omega arith)

@@ -142,6 +142,11 @@ by_sort st c p s (Word x) = named p (meaning st c x)
 by_sort st c p s (Listed h ds) = by_head st c p h ds (head st c h)
 by_sort st c p s Nothing = Wrong (refusal.BadForm p)
 
+-- the same of a list of these elements
+abbrev pub list_expression : State → Context → Place → datum.Trees → Expression
+list_expression st c p datum.none = Wrong (refusal.BadForm p)
+list_expression st c p (datum.more h ds) = by_head st c p h ds (head st c h)
+
 -- what a datum is as an expression
 unfoldable pub expression : State → Context → datum.Tree → Expression
 expression st c (datum.At p s) = by_sort st c p s (sort s)

@@ -22,6 +22,9 @@ use Rattle.tb_expand.specs.declared.expression.Build.{Build as BuildCode}
 use Rattle.tb_expand.specs.declared.expression.Build.TheVariants as build
 use Rattle.tb_expand.specs.declared.expression.Expression.{Expression as ExpressionCode}
 use Rattle.tb_expand.specs.declared.expression.Expression.TheVariants as expr
+use Rattle.tb_expand.specs.declared.expression.Head.{Head as HeadCode}
+use Rattle.tb_expand.specs.declared.expression.Head.TheVariants as head
+use Rattle.tb_expand.specs.Expressions.{Head, Operator, Keyword, Primitively}
 use Rattle.tb_expand.specs.declared.refusal.ExpandRefusal.{ExpandRefusal}
 use Rattle.tb_expand.specs.declared.refusal.ExpandRefusal.TheVariants as refused
 use Rattle.tb_expand.specs.Refusals.{Refusal, BadForm, Duplicate, Budget, TooDeep, NotBuilt}
@@ -153,6 +156,7 @@ view_expression (expr.Constant s) = Constantly (data_view.view_node s.now)
 view_expression (expr.Local x) = Naming (Local (view_variable x))
 view_expression (expr.Global g) = Naming (Global g.now)
 view_expression (expr.Operands k ds) = Operands (view_build k) (data_of ds.now)
+view_expression (expr.Assignment k d) = Operands (view_build k) (datum.more (data_view.view d.now) datum.none)
 view_expression (expr.Sequence ds) = Sequence (data_of ds.now)
 view_expression (expr.Procedure f b) = Procedural (view_formals f) (data_of b.now)
 view_expression (expr.Binding ps b) = Binding (view_pairs ps.items) (data_of b.now)
@@ -175,3 +179,20 @@ Fails P refused.NoMemory = Unit {0}
 abbrev pub IsRead : Expression → Result ExpressionCode ExpandRefusal → Type 0
 IsRead x (Ok e) = x ≡ view_expression e
 IsRead x (Err r) = Fails (λ q. x ≡ Wrong q) r
+
+-- a first datum, and one at least after it
+abbrev pub NoBody : datum.Trees → Type 0
+NoBody datum.none = Unit {0}
+NoBody (datum.more a datum.none) = Unit {0}
+NoBody (datum.more a (datum.more b ds)) = ⊥
+
+pub record HasBody (ds : datum.Trees) (a : datum.Tree) (b : datum.Trees) : Type 0 where
+  pub first : datum.Tree
+  pub rest : datum.Trees
+  pub body : b ≡ datum.more first rest
+  pub whole : ds ≡ datum.more a (datum.more first rest)
+
+abbrev pub view_head : HeadCode → Head
+view_head head.Operator = Operator
+view_head (head.Keyword f) = Keyword f
+view_head (head.Primitively q) = Primitively q

@@ -16,7 +16,7 @@ mod tree;
 pub use constants::{has_fixnums, node_has_fixnums};
 pub use context::Context;
 pub use examples::{worked_numbers, worked_refusals, worked_texts};
-pub use expression::{Build, Expression};
+pub use expression::{Build, Expression, Head, read_expression, read_head};
 pub use form::Form;
 pub use laws::{one_answer_a_datum, one_answer_a_text};
 pub use name::{Name, Variable};
