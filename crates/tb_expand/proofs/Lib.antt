@@ -7,3 +7,4 @@ pub mod OneAnswer
 pub mod Lookups
 pub mod Rows
 pub mod Reading
+pub mod Counts

@@ -1,5 +1,5 @@
 -- The nodes that the types of trees are seen as.
-use Rattle.std.specs.Prelude.{◌≡◌, ℕ, List, [], ◌∷◌, map, reverse, Option, Some, None, Result, Ok, Err}
+use Rattle.std.specs.Prelude.{◌≡◌, ℕ, Bool, true, false, List, [], ◌∷◌, map, reverse, Option, Some, None, Result, Ok, Err}
 use Rattle.std.specs.Borrow.{Bor}
 use Rattle.tb_sexp.specs.View as data_view
 use Rattle.tb_expand.specs.declared.name.Name.{Name as NameCode}
@@ -24,6 +24,7 @@ use Rattle.tb_expand.specs.declared.expression.Expression.{Expression as Express
 use Rattle.tb_expand.specs.declared.expression.Expression.TheVariants as expr
 use Rattle.tb_expand.specs.declared.expression.Head.{Head as HeadCode}
 use Rattle.tb_expand.specs.declared.expression.Head.TheVariants as head
+use Rattle.tb_expand.specs.Limits.{Limited, Within, Past, has_room}
 use Rattle.tb_expand.specs.Expressions.{Head, Operator, Keyword, Primitively}
 use Rattle.tb_expand.specs.declared.refusal.ExpandRefusal.{ExpandRefusal}
 use Rattle.tb_expand.specs.declared.refusal.ExpandRefusal.TheVariants as refused
@@ -196,3 +197,13 @@ abbrev pub view_head : HeadCode → Head
 view_head head.Operator = Operator
 view_head (head.Keyword f) = Keyword f
 view_head (head.Primitively q) = Primitively q
+
+-- a state within the limits, or what is past them
+abbrev pub IsLimited : {X : Type 0} → Limited → Result X ExpandRefusal → State → Type 0
+IsLimited l (Ok u) st = l ≡ Within st
+IsLimited l (Err r) st = Fails (λ q. l ≡ Past q) r
+
+-- a state as it was wanted, or one that has no room
+abbrev pub IsCounted : Bool → State → State → Type 0
+IsCounted true wanted st = st ≡ wanted
+IsCounted false wanted st = has_room wanted ≡ false

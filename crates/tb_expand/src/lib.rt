@@ -7,6 +7,7 @@ mod examples;
 mod expression;
 mod form;
 mod laws;
+mod limits;
 mod name;
 mod refusal;
 mod shapes;
