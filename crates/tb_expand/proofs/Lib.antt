@@ -8,3 +8,4 @@ pub mod Lookups
 pub mod Rows
 pub mod Reading
 pub mod Counts
+pub mod Items

@@ -29,8 +29,19 @@ defines_by (Keyword f) b = false
 
 abbrev mutual
   pub defines : State → Context → datum.Tree → Bool
-  defines st c (datum.At p (datum.Proper (datum.more h ds))) = defines_by (head st c h) (begins st c ds)
-  defines st c (datum.At p s) = false
+  defines st c (datum.At p datum.Nil) = false
+  defines st c (datum.At p (datum.Truth b)) = false
+  defines st c (datum.At p (datum.Fixnum n)) = false
+  defines st c (datum.At p (datum.Character n)) = false
+  defines st c (datum.At p (datum.String s)) = false
+  defines st c (datum.At p (datum.Name s alias)) = false
+  defines st c (datum.At p (datum.Proper ds)) = defines_in st c ds
+  defines st c (datum.At p (datum.Dotted ds d)) = false
+  defines st c (datum.At p (datum.Vector ds)) = false
+
+  pub defines_in : State → Context → datum.Trees → Bool
+  defines_in st c datum.none = false
+  defines_in st c (datum.more h ds) = defines_by (head st c h) (begins st c ds)
 
   pub begins : State → Context → datum.Trees → Bool
   begins st c datum.none = true

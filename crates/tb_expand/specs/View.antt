@@ -17,7 +17,11 @@ use Rattle.tb_sexp.specs.Tree as datum
 use Rattle.tb_expand.specs.declared.shapes.Binder.{Binder as BinderCode}
 use Rattle.tb_expand.specs.declared.shapes.Formals.{Formals as FormalsCode}
 use Rattle.tb_expand.specs.declared.shapes.Pair.{Pair as PairCode}
-use Rattle.tb_expand.specs.Shapes.{Formals, Pair, Pairs}
+use Rattle.tb_expand.specs.declared.definition.Target.{Target as TargetCode}
+use Rattle.tb_expand.specs.declared.definition.Defined.{Defined as DefinedCode}
+use Rattle.tb_expand.specs.declared.definition.Defined.TheVariants as defined
+use Rattle.tb_expand.specs.declared.definition.Definition.{Definition as DefinitionCode}
+use Rattle.tb_expand.specs.Shapes.{Formals, Pair, Pairs, Target, Defined, Value, Procedure, Definition}
 use Rattle.tb_expand.specs.declared.expression.Build.{Build as BuildCode}
 use Rattle.tb_expand.specs.declared.expression.Build.TheVariants as build
 use Rattle.tb_expand.specs.declared.expression.Expression.{Expression as ExpressionCode}
@@ -207,3 +211,13 @@ IsLimited l (Err r) st = Fails (λ q. l ≡ Past q) r
 abbrev pub IsCounted : Bool → State → State → Type 0
 IsCounted true wanted st = st ≡ wanted
 IsCounted false wanted st = has_room wanted ≡ false
+
+abbrev pub view_target : TargetCode → Target
+view_target t = record { binder = view_binder t.binder; formals = view_formals t.formals }
+
+abbrev pub view_defined : DefinedCode → Defined
+view_defined (defined.Value d) = Value (data_view.view d.now)
+view_defined (defined.Procedure p f b) = Procedure p (view_formals f) (data_of b.now)
+
+abbrev pub view_definition : DefinitionCode → Definition
+view_definition i = record { binder = view_binder i.binder; value = view_defined i.value }

@@ -3,6 +3,7 @@
 
 mod constants;
 mod context;
+mod definition;
 mod examples;
 mod expression;
 mod form;
@@ -16,6 +17,7 @@ mod tree;
 
 pub use constants::{has_fixnums, node_has_fixnums};
 pub use context::Context;
+pub use definition::{Defined, Definition, Target, defines, definition_of};
 pub use examples::{worked_numbers, worked_refusals, worked_texts};
 pub use expression::{Build, Expression, Head, read_expression, read_head};
 pub use form::Form;

@@ -3,6 +3,7 @@ ghost use Rattle.std.specs.Prelude.{◌≡◌, IfOk, MatchOption, None, Some, ma
 ghost use Rattle.tb_expand.specs.Names as names;
 ghost use Rattle.tb_expand.specs.Shapes as shapes;
 ghost use Rattle.tb_expand.specs.View.{HasBody, IsBehind, NoBody, data_of, view_binder, view_formals, view_pair, view_pairs};
+ghost use Rattle.tb_sexp.specs.Tree as tree;
 ghost use Rattle.tb_sexp.specs.View as data_view;
 
 use super::name::{Name, is_among};
@@ -226,4 +227,15 @@ pub fn bound_twice(alloc: Global, binders: &[Binder]) -> Result<Option<Place>, N
         seen.push(binder.name)?;
     }
     Ok(None)
+}
+
+/// The first datum and those after it.
+pub fn first_and_rest<'a>(datums: &'a [Datum]) -> Option<(&'a Datum, &'a [Datum])>
+    ensures { MatchOption result (data_of datums.now ≡ tree.none) (λ parts. data_of datums.now ≡ tree.more (data_view.view parts.0.now) (data_of parts.1.now)) }
+{
+    if datums.is_empty() {
+        None
+    } else {
+        Some((&datums[0], &datums[1..]))
+    }
 }
