@@ -38,3 +38,6 @@ view_datum d = fold_out-Datum datum.Shape datum.Tree data_view.view_in data_view
 pub not_used_at : (p : Place) (d : Datum) (ds : List Datum) (q : Primitive) → length ds ≢ arity_of q → is_of_many q ≡ false →
     primitive_use p (data_view.view d) (data_of ds) q ≡ Wrong (NotBuilt d.place)
 not_used_at p d ds q n e = not_used p (data_view.view d) ds q false n e ∙ ap (λ t. Wrong (NotBuilt (place_of t))) (view_datum d)
+
+pub place_viewed : (d : Datum) → place_of (data_view.view d) ≡ d.place
+place_viewed d = ap place_of (view_datum d)

@@ -21,6 +21,10 @@ use Rattle.tb_expand.specs.declared.definition.Target.{Target as TargetCode}
 use Rattle.tb_expand.specs.declared.definition.Defined.{Defined as DefinedCode}
 use Rattle.tb_expand.specs.declared.definition.Defined.TheVariants as defined
 use Rattle.tb_expand.specs.declared.definition.Definition.{Definition as DefinitionCode}
+use Rattle.tb_expand.specs.declared.definition.Kind.{Kind as KindCode}
+use Rattle.tb_expand.specs.declared.definition.Kind.TheVariants as kind
+use Rattle.tb_expand.specs.Bodies as body
+use Rattle.tb_expand.specs.Bodies.{Kind}
 use Rattle.tb_expand.specs.Shapes.{Formals, Pair, Pairs, Target, Defined, Value, Procedure, Definition}
 use Rattle.tb_expand.specs.declared.expression.Build.{Build as BuildCode}
 use Rattle.tb_expand.specs.declared.expression.Build.TheVariants as build
@@ -221,3 +225,8 @@ view_defined (defined.Procedure p f b) = Procedure p (view_formals f) (data_of b
 
 abbrev pub view_definition : DefinitionCode → Definition
 view_definition i = record { binder = view_binder i.binder; value = view_defined i.value }
+
+abbrev pub view_kind : KindCode → Kind
+view_kind kind.Expression = body.Expression
+view_kind (kind.Defining p ds) = body.Defining p (data_of ds.now)
+view_kind (kind.Beginning p ds) = body.Beginning p (data_of ds.now)

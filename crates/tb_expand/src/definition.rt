@@ -2,7 +2,8 @@
 ghost use Rattle.std.specs.Prelude.{◌≡◌, IfOk, MatchOption, None, Some};
 ghost use Rattle.tb_expand.specs.Bodies as bodies;
 ghost use Rattle.tb_expand.specs.Shapes as shapes;
-ghost use Rattle.tb_expand.specs.View.{data_of, view_binder, view_definition, view_state, view_target};
+ghost use Rattle.tb_expand.specs.Texts as texts;
+ghost use Rattle.tb_expand.specs.View.{data_of, view_binder, view_definition, view_kind, view_state, view_target};
 ghost use Rattle.tb_sexp.specs.View as data_view;
 
 use super::context::Context;
@@ -171,5 +172,65 @@ fn defines_in(state: &State, context: Context, elements: &[Datum]) -> bool
             None => true,
         },
         _ => false,
+    }
+}
+
+/// What an item of a body or of a text is.
+#[derive(Clone, Copy, Debug)]
+pub enum Kind<'a> {
+    Expression,
+    Defining(Place, &'a [Datum]),
+    Beginning(Place, &'a [Datum]),
+}
+
+/// What an item of a body is in a scope.
+#[tactic(auto, using(crate::proofs::Reading::place_viewed), unfolding(crate::specs::Bodies::kind))]
+pub fn item_kind<'a>(state: &State<'a>, context: Context, datum: &'a Datum) -> Kind<'a>
+    ensures { view_kind result ≡ bodies.kind (view_state state.now) context (data_view.view datum.now) }
+{
+    let Some(elements) = elements_of(datum) else {
+        return Kind::Expression;
+    };
+    let Some((first, rest)) = first_and_rest(elements) else {
+        return Kind::Expression;
+    };
+    match read_head(state, context, first) {
+        Head::Keyword(Form::Defining) => Kind::Defining(datum.place, rest),
+        Head::Keyword(Form::Beginning) => {
+            if begins(state, context, rest) {
+                Kind::Beginning(datum.place, rest)
+            } else {
+                Kind::Expression
+            }
+        }
+        _ => Kind::Expression,
+    }
+}
+
+/// Whether there are no items, or the first defines.
+fn begins(state: &State, context: Context, items: &[Datum]) -> bool
+    ensures { result ≡ bodies.begins (view_state state.now) context (data_of items.now) }
+{
+    match first_and_rest(items) {
+        Some((item, _)) => defines(state, context, item),
+        None => true,
+    }
+}
+
+/// What a form at top level is, where every `begin` stands for its forms.
+#[tactic(auto, using(crate::proofs::Reading::place_viewed), unfolding(crate::specs::Texts::top_kind))]
+pub fn form_kind<'a>(state: &State<'a>, context: Context, datum: &'a Datum) -> Kind<'a>
+    ensures { view_kind result ≡ texts.top_kind (view_state state.now) context (data_view.view datum.now) }
+{
+    let Some(elements) = elements_of(datum) else {
+        return Kind::Expression;
+    };
+    let Some((first, rest)) = first_and_rest(elements) else {
+        return Kind::Expression;
+    };
+    match read_head(state, context, first) {
+        Head::Keyword(Form::Defining) => Kind::Defining(datum.place, rest),
+        Head::Keyword(Form::Beginning) => Kind::Beginning(datum.place, rest),
+        _ => Kind::Expression,
     }
 }

@@ -17,7 +17,7 @@ mod tree;
 
 pub use constants::{has_fixnums, node_has_fixnums};
 pub use context::Context;
-pub use definition::{Defined, Definition, Target, defines, definition_of};
+pub use definition::{Defined, Definition, Kind, Target, defines, definition_of, form_kind, item_kind};
 pub use examples::{worked_numbers, worked_refusals, worked_texts};
 pub use expression::{Build, Expression, Head, read_expression, read_head};
 pub use form::Form;
