@@ -1,5 +1,5 @@
 -- Static objects are counted up.
-use Rattle.std.proofs.Common.{◌≡◌, refl, sym, ap, ◌∙◌, subst, ℕ, zero, suc, ◌+◌, ◌<◌, ◌≤◌, arith, nat_le, ◌&&◌, Bool, true, false, cond, List, [], ◌∷◌, length, map, drop, drop-cons, get_or, add-one, bytes_eq, Some}
+use Rattle.std.proofs.Common.{◌≡◌, sym, ap, ◌∙◌, ℕ, suc, ◌+◌, ◌<◌, ◌≤◌, arith, nat_le, ◌&&◌, Bool, true, false, List, length, drop, drop-cons, get_or, bytes_eq, Some}
 use Rattle.std.specs.List.{list_any}
 use Rattle.tb_sexp.specs.declared.datum.Datum.{Datum}
 use Rattle.tb_sexp.specs.declared.datum.Node.TheFolds.{fold-roll-Node}

@@ -1,5 +1,5 @@
 -- What a list is as an expression, by its elements in a row.
-use Rattle.std.proofs.Common.{◌≡◌, ◌≢◌, refl, sym, ap, ◌∙◌, ℕ, ◌+◌, ◌<◌, ◌≤◌, arith, Bool, true, false, cond, ◌==◌, List, [], ◌∷◌, length, Option, Some, None}
+use Rattle.std.proofs.Common.{◌≡◌, ◌≢◌, refl, sym, ap, ◌∙◌, arith, Bool, false, cond, ◌==◌, List, [], ◌∷◌, length}
 use Rattle.std.proofs.lemmas.Bool.{eq-eqb, ne_eqb}
 use Rattle.tb_prim.specs.declared.place.Place.{Place}
 use Rattle.tb_prim.specs.declared.primitive.Primitive.{Primitive}
@@ -11,7 +11,7 @@ use Rattle.tb_expand.specs.Scopes.{State}
 use Rattle.tb_expand.specs.Words.{is_of_many}
 use Rattle.tb_expand.specs.Limits.{how_many_data}
 use Rattle.tb_expand.specs.Shapes.{begin_parts}
-use Rattle.tb_expand.specs.Expressions.{Expression, Wrong, Operands, Sequence, Using, misused, place_of, primitive_use, of_parts}
+use Rattle.tb_expand.specs.Expressions.{Wrong, Operands, Sequence, Using, misused, place_of, primitive_use, of_parts}
 use Rattle.tb_sexp.specs.View as data_view
 use Rattle.tb_sexp.specs.declared.datum.Node.TheFolds.{fold_out-Datum}
 use Rattle.tb_expand.specs.Refusals.{NotBuilt}

@@ -1,5 +1,5 @@
 -- Rows of data as plain data.
-use Rattle.std.proofs.Common.{◌≡◌, refl, sym, ap, ◌∙◌, subst, ℕ, zero, suc, ◌+◌, ◌<◌, ◌≤◌, arith, List, [], ◌∷◌, ◌++◌, length, map, drop, drop-cons, get_or, append_assoc, add-one, Option, Some, None}
+use Rattle.std.proofs.Common.{◌≡◌, refl, sym, ap, ◌∙◌, ℕ, zero, suc, ◌+◌, ◌<◌, ◌≤◌, arith, List, [], ◌∷◌, ◌++◌, length, map, drop, drop-cons, get_or, append_assoc, add-one, Option, Some, None}
 use Rattle.std.proofs.lemmas.List.{map-append}
 use Rattle.tb_sexp.specs.declared.datum.Datum.{Datum}
 use Rattle.tb_sexp.specs.Tree as datum
@@ -8,7 +8,7 @@ use Rattle.tb_expand.specs.Names.{Binder}
 use Rattle.tb_expand.specs.declared.shapes.Binder.{Binder as BinderCode}
 use Rattle.tb_expand.specs.Shapes.{binder_of, binders_of, and_binder}
 use Rattle.tb_expand.specs.declared.shapes.Pair.{Pair as PairCode}
-use Rattle.tb_expand.specs.Shapes.{Pair, Pairs, pair_in, pairs_of, and_pair, elements_of}
+use Rattle.tb_expand.specs.Shapes.{Pairs, pair_in, pairs_of, and_pair, elements_of}
 use Rattle.tb_expand.specs.View.{data_of, view_binder, view_pair, view_pairs, NoBody}
 
 pub one_datum : (ds : List Datum) (a : Datum) → length ds ≡ 1 → data_of ds ≡ datum.more (data_view.view (get_or ds 0 a)) datum.none

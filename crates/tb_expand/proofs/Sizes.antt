@@ -1,24 +1,23 @@
 -- The parts of a form are smaller than it.
-use Rattle.std.proofs.Common.{◌≡◌, refl, ℕ, zero, suc, ◌+◌, ◌≤◌, ◌<◌, arith, Bool, true, false, cond, ◌==◌, List, [], ◌∷◌, ◌++◌, Option, Some, None}
+use Rattle.std.proofs.Common.{◌≡◌, refl, ℕ, ◌+◌, ◌≤◌, arith, Bool, true, false, cond, ◌==◌, Option, Some, None}
 use Rattle.tb_prim.specs.declared.place.Place.{Place}
 use Rattle.tb_prim.specs.declared.primitive.Primitive.{Primitive}
 use Rattle.tb_prim.specs.Primitives.{arity_of}
 use Rattle.tb_sexp.specs.Tree as datum
 use Rattle.tb_expand.specs.Names.{Binder, bound_twice}
-use Rattle.tb_expand.specs.Trees.{Nodes, nil, cons, how_many}
 use Rattle.tb_expand.specs.declared.form.Form.{Form}
 use Rattle.tb_expand.specs.declared.form.Form.TheVariants.{Quoting, Closure, Choice, Assigning, Defining, Beginning, Binding, Recursive, Applying, Later}
 use Rattle.tb_expand.specs.Words.{Meaning, Variable, Special, Integrated, Plain, is_of_many}
 use Rattle.tb_expand.specs.declared.context.Context.{Context}
 use Rattle.tb_expand.specs.Scopes.{State, meaning}
 use Rattle.tb_expand.specs.Limits.{how_many_data}
-use Rattle.tb_expand.specs.Shapes.{Sort, Itself, Word, Listed, Nothing, sort, binder_of, binder_at, Formals, formals_of, parameters, elements_of, Pair, pair_with, pair_in, Pairs, and_pair, pairs_of, pairs_in, Parts, QuoteOf, LambdaOf, IfOf, ShortIfOf, SetOf, BeginOf, LetOf, LetrecOf, ApplyOf, Unbuilt, quote_parts, lambda_of, lambda_parts, if_parts, set_of, set_parts, begin_parts, let_of, named_or, let_parts, letrec_of, letrec_parts, apply_parts, parts_of, Defined, Value, Procedure, Definition, value_definition, Target, target_of, procedure_definition, definition_by, definition_of}
+use Rattle.tb_expand.specs.Shapes.{binder_of, Formals, formals_of, parameters, elements_of, Pair, pair_with, pair_in, Pairs, and_pair, pairs_of, pairs_in, Parts, QuoteOf, LambdaOf, IfOf, ShortIfOf, SetOf, BeginOf, LetOf, LetrecOf, ApplyOf, Unbuilt, quote_parts, lambda_of, lambda_parts, if_parts, set_of, set_parts, begin_parts, let_of, named_or, let_parts, letrec_of, letrec_parts, apply_parts, parts_of, Defined, Value, Procedure, Definition, value_definition, Target, target_of, procedure_definition, definition_by, definition_of}
 use Rattle.tb_expand.specs.Expressions as expr
 use Rattle.tb_expand.specs.Expressions.{Expression, Wrong, Constantly, Naming, Operands, Sequence, Procedural, Recursion, Build, Choosing, ChoosingOne, AssigningLocal, AssigningGlobal, Using, ApplyingTo, Calling, Head, Operator, Keyword, Primitively, head, word_alone, named, assigned, binding_once, of_parts, are_fixnums_in, constantly, misused, primitive_use, by_head, by_sort, expression}
 use Rattle.tb_expand.specs.Refusals as refusal
 use Rattle.tb_expand.specs.Bodies as body
 use Rattle.tb_expand.specs.Bodies.{Kind, kind_by, kind_in, kind, begins}
-use Rattle.tb_expand.specs.Texts.{top_kind_in, top_kind}
+use Rattle.tb_expand.specs.Texts.{top_kind}
 
 -- the lists inside a datum, dotted ones apart
 abbrev mutual

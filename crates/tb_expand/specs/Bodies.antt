@@ -2,9 +2,8 @@
 use Rattle.std.specs.Prelude.{◌≡◌, ◌≢◌, ℕ, Bool, true, false, List, [], ◌∷◌, ◌++◌, Option, Some, None}
 use Rattle.tb_prim.specs.declared.place.Place.{Place}
 use Rattle.tb_sexp.specs.Tree as datum
-use Rattle.tb_expand.specs.Names.{Name, Binder}
+use Rattle.tb_expand.specs.Names.{Binder}
 use Rattle.tb_expand.specs.Trees.{Var}
-use Rattle.tb_expand.specs.declared.form.Form.{Form}
 use Rattle.tb_expand.specs.declared.form.Form.TheVariants as word
 use Rattle.tb_expand.specs.Refusals.{Refusal, BadForm}
 use Rattle.tb_expand.specs.declared.context.Context.{Context}

@@ -1,10 +1,9 @@
 -- The forms of a text, one after another, at top level.
-use Rattle.std.specs.Prelude.{◌≡◌, ◌≢◌, ℕ, Bool, true, false, List, [], ◌∷◌, Option, Some, None}
+use Rattle.std.specs.Prelude.{◌≡◌, ◌≢◌, ℕ, Bool, true, false, List, [], Option, Some, None}
 use Rattle.tb_prim.specs.declared.place.Place.{Place}
 use Rattle.tb_sexp.specs.Tree as datum
 use Rattle.tb_expand.specs.Trees.{Node, At, DefGlobal, Nodes, nil, cons, joined}
-use Rattle.tb_expand.specs.Words.{Meaning, Plain, word_of}
-use Rattle.tb_expand.specs.declared.form.Form.TheVariants as word
+use Rattle.tb_expand.specs.Words.{Plain, word_of}
 use Rattle.tb_expand.specs.Refusals.{Refusal, BadForm, Integrated, NotBuilt}
 use Rattle.tb_expand.specs.declared.context.Context.{Context}
 use Rattle.tb_expand.specs.Scopes.{State}

@@ -40,10 +40,7 @@ pub struct Definition<'a> {
 }
 
 /// The name and the parameters in a list of these elements.
-fn target_in<'a>(
-    alloc: Global,
-    elements: &'a [Datum],
-) -> Result<Option<Target<'a>>, NoMemory>
+fn target_in<'a>(alloc: Global, elements: &'a [Datum]) -> Result<Option<Target<'a>>, NoMemory>
     ensures { IfOk result (λ o. MatchOption o (shapes.target_in (data_of elements.now) ≡ None) (λ t. shapes.target_in (data_of elements.now) ≡ Some (view_target t))) }
 {
     let Some((name, parameters)) = first_and_rest(elements) else {

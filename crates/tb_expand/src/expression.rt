@@ -12,8 +12,8 @@ use super::form::Form;
 use super::name::{Name, Variable};
 use super::refusal::ExpandRefusal;
 use super::shapes::{
-    Binder, Counted, Formals, Pair, behind, binder_of, bound_twice, elements_of, first_and_body, formals_of,
-    pair_binders, pairs_of, parameters_of,
+    Binder, Counted, Formals, Pair, behind, binder_of, bound_twice, elements_of, first_and_body,
+    formals_of, pair_binders, pairs_of, parameters_of,
 };
 use super::state::{Meaning, State, find_meaning};
 use std::alloc::Global;

@@ -17,7 +17,9 @@ mod tree;
 
 pub use constants::{has_fixnums, node_has_fixnums};
 pub use context::Context;
-pub use definition::{Defined, Definition, Kind, Target, defines, definition_of, form_kind, item_kind};
+pub use definition::{
+    Defined, Definition, Kind, Target, defines, definition_of, form_kind, item_kind,
+};
 pub use examples::{worked_numbers, worked_refusals, worked_texts};
 pub use expression::{Build, Expression, Head, read_expression, read_head};
 pub use form::Form;
@@ -25,7 +27,8 @@ pub use laws::{one_answer_a_datum, one_answer_a_text};
 pub use name::{Name, Variable};
 pub use refusal::ExpandRefusal;
 pub use shapes::{
-    Binder, Counted, Formals, Pair, behind, binder_of, binders_of, elements_of, formals_of, pairs_of,
+    Binder, Counted, Formals, Pair, behind, binder_of, binders_of, elements_of, formals_of,
+    pairs_of,
 };
 pub use state::{Meaning, Scope, State, find_meaning};
 pub use tree::{Core, Node};

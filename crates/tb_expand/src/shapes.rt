@@ -86,10 +86,7 @@ pub struct Formals<'a> {
 }
 
 /// The parameters that a datum stands for: `(x ...)`, `(x ... . r)` or `r` (R5RS 4.1.4).
-pub fn formals_of<'a>(
-    alloc: Global,
-    datum: &'a Datum,
-) -> Result<Option<Formals<'a>>, NoMemory>
+pub fn formals_of<'a>(alloc: Global, datum: &'a Datum) -> Result<Option<Formals<'a>>, NoMemory>
     ensures { IfOk result (λ o. MatchOption o (shapes.formals_of (data_view.view datum.now) ≡ None) (λ f. shapes.formals_of (data_view.view datum.now) ≡ Some (view_formals f))) }
 {
     match &datum.node {
@@ -163,10 +160,7 @@ fn pair_of<'a>(datum: &'a Datum) -> Option<Pair<'a>>
 }
 
 /// The bindings, where the data are all bindings.
-pub fn pairs_of<'a>(
-    alloc: Global,
-    datums: &'a [Datum],
-) -> Result<Option<Vec<Pair<'a>>>, NoMemory>
+pub fn pairs_of<'a>(alloc: Global, datums: &'a [Datum]) -> Result<Option<Vec<Pair<'a>>>, NoMemory>
     ensures { IfOk result (λ o. MatchOption o (shapes.pairs_of (data_of datums.now) ≡ None) (λ ps. shapes.pairs_of (data_of datums.now) ≡ Some (view_pairs ps.items))) }
 {
     let mut pairs = Vec::new(alloc);
@@ -191,10 +185,7 @@ pub fn first_and_body<'a>(datums: &'a [Datum]) -> Option<(&'a Datum, &'a [Datum]
 }
 
 /// All parameters, the rest one last.
-pub fn parameters_of<'a>(
-    alloc: Global,
-    formals: &Formals<'a>,
-) -> Result<Vec<Binder<'a>>, NoMemory>
+pub fn parameters_of<'a>(alloc: Global, formals: &Formals<'a>) -> Result<Vec<Binder<'a>>, NoMemory>
     ensures { IfOk result (λ bs. map view_binder bs.items ≡ shapes.parameters (view_formals formals.now)) }
 {
     let mut binders = formals.fixed.to_vec(alloc)?;

@@ -1,4 +1,4 @@
-use Rattle.std.proofs.Common.{◌≡◌, sym, ap, ◌∙◌, arith, false, Some}
+use Rattle.std.proofs.Common.{◌≡◌, sym, ap, ◌∙◌, arith, false}
 use Rattle.tb_sexp.specs.declared.datum.Node.TheVariants as node
 use Rattle.tb_sexp.specs.View.{view, view_node}
 use Rattle.tb_expand.specs.Limits.{has_room, with_objects, with_objects_of, with_pairs, one_object}
@@ -32,8 +32,8 @@ pub add_node-returns-else-branch : goal.add_node-returns-else-branch
 add_node-returns-else-branch t c =
     let e = c.in-List.is ∙ ap (λ o. node.List c.in-List.elements o) c.in-Some.is in
     let h : has_room (with_pairs (data_of c.in-List.elements) (view_state c.args.state.now)) ≡ false =
-        ap (λ ds. has_room (with_pairs (data_of ds) (view_state c.args.state.now))) (sym c.as_slice-in-Some.ensures)
-        ∙ not_counted c.in_ok-add_pairs-in-Some.field-0 _ _ c.if-branch.false c.in_ok-add_pairs-in-Some.ensures in
+    ap (λ ds. has_room (with_pairs (data_of ds) (view_state c.args.state.now))) (sym c.as_slice-in-Some.ensures)
+    ∙ not_counted c.in_ok-add_pairs-in-Some.field-0 _ _ c.if-branch.false c.in_ok-add_pairs-in-Some.ensures in
     ap (λ n. has_room (with_objects_of (view_node n) (view_state c.args.state.now))) e
     ∙ ap (λ s. has_room (with_objects_of s (view_state c.args.state.now))) (view_dotted c.in-List.elements c.in-Some.tail)
     ∙ tail_past (view c.in-Some.tail) (with_pairs (data_of c.in-List.elements) (view_state c.args.state.now)) h
