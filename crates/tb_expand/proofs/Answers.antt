@@ -1,12 +1,9 @@
 -- Answers one after another: what is so of them, when they are reached, and that they come to an end.
-use Rattle.std.proofs.Common.{◌≡◌, refl, sym, ap, ◌∙◌, subst, ℕ, zero, suc, ◌+◌, ◌≤◌, arith}
-use Rattle.tb_sexp.specs.Tree as datum
+use Rattle.std.proofs.Common.{◌≡◌, refl, sym, ap, ◌∙◌, ℕ, zero, suc, ◌+◌, ◌≤◌, arith}
 use Rattle.tb_expand.specs.Refusals.{Refusal}
-use Rattle.tb_expand.specs.declared.context.Context.{Context}
 use Rattle.tb_expand.specs.Scopes.{State}
 use Rattle.tb_expand.specs.Limits.{Limited, Within, Past}
-use Rattle.tb_expand.specs.Trees.{Node}
-use Rattle.tb_expand.specs.calls.Expand.{Answer, Made, Refused, Unfinished, on, on_limit, scan, scan_step, expand, bodies, step, body_step, form, form_step}
+use Rattle.tb_expand.specs.calls.Expand.{Answer, Made, Refused, Unfinished, on, on_limit}
 
 -- a fact about an answer from one about the answer before it
 pub on_so : {X Y : Type 0} (P : Answer X → Type 0) (Q : Answer Y → Type 0) (a : Answer X) (f : X → State → Answer Y) → P a →

@@ -1,23 +1,21 @@
 -- What data mean, and the first refusal in them, are what expansion answers once it is given enough levels.
-use Rattle.std.proofs.Common.{◌≡◌, ◌≢◌, refl, ap, ◌∙◌, ℕ, zero, suc, ◌≤◌, Bool, true, List, [], ◌∷◌, length, Option, Some, None}
+use Rattle.std.proofs.Common.{◌≡◌, ◌≢◌, refl, ap, ◌∙◌, ℕ, List, [], ◌∷◌, Option, Some, None}
 use Rattle.tb_prim.specs.declared.place.Place.{Place}
 use Rattle.tb_sexp.specs.Tree as datum
-use Rattle.tb_expand.specs.Names.{names, bound_twice}
-use Rattle.tb_expand.specs.Trees.{Node, Nodes, nil, cons}
-use Rattle.tb_expand.specs.Splits.{split}
+use Rattle.tb_expand.specs.Names.{bound_twice}
+use Rattle.tb_expand.specs.Trees.{Node, Nodes}
 use Rattle.tb_expand.specs.Words.{Meaning, Variable, Special, Integrated, Plain, word_of}
 use Rattle.tb_expand.specs.Refusals as refusal
 use Rattle.tb_expand.specs.Refusals.{Refusal}
 use Rattle.tb_expand.specs.declared.context.Context.{Context}
-use Rattle.tb_expand.specs.Scopes.{State, fresh, enter}
-use Rattle.tb_expand.specs.Limits.{inner, within, valued}
-use Rattle.tb_expand.specs.Shapes.{Formals, parameters, Defined, Value, Procedure, Definition, definition_of}
-use Rattle.tb_expand.specs.Expressions.{Expression, Wrong, Constantly, Naming, Operands, Sequence, Procedural, Binding, Recursion, expression, built}
+use Rattle.tb_expand.specs.Scopes.{State}
+use Rattle.tb_expand.specs.Shapes.{Formals, Defined, Definition, definition_of}
+use Rattle.tb_expand.specs.Expressions.{Expression, Wrong, Constantly, Naming, Operands, Sequence, Procedural, Binding, Recursion, expression}
 use Rattle.tb_expand.specs.Bodies.{Kind, Defining, Beginning, kind, Found, and_one, and_then, defined_in, Scans, scanned, expressions, a_definition, a_begin, ScanRefuses, no_definition, behind_definition, in_begin, expression_in_begin, behind_begin}
 use Rattle.tb_expand.specs.Bodies as body
-use Rattle.tb_expand.specs.Means.{rest_context, Means, a_constant, a_name, operands, a_sequence, a_lambda, a_let, a_letrec, MeansAll, no_more, one_more, MeansSequence, alone, several, MeansLambda, closure, MeansDefined, a_value, a_procedure, MeansEach, none_defined, one_defined, MeansBody, plain_body, defining_body, Refuses, is_wrong, no_constant, no_objects, no_name, no_node, in_operands, behind_operands, in_sequence, in_lambda, no_let, in_let_values, in_let_body, no_letrec, in_letrec_values, in_letrec_body, no_split, RefusesAll, here, later, RefusesSequence, no_expressions, in_one, no_sequence, in_several, RefusesLambda, no_closure, in_closure, RefusesDefined, in_value, parameter_twice, in_procedure, RefusesEach, in_first, in_others, RefusesBody, in_scan, in_plain, defined_twice, nothing_behind, no_definitions, in_values, in_rest, no_body_split}
+use Rattle.tb_expand.specs.Means.{Means, a_constant, a_name, operands, a_sequence, a_lambda, a_let, a_letrec, MeansAll, no_more, one_more, MeansSequence, alone, several, MeansLambda, closure, MeansDefined, a_value, a_procedure, MeansEach, none_defined, one_defined, MeansBody, plain_body, defining_body, Refuses, is_wrong, no_constant, no_objects, no_name, no_node, in_operands, behind_operands, in_sequence, in_lambda, no_let, in_let_values, in_let_body, no_letrec, in_letrec_values, in_letrec_body, no_split, RefusesAll, here, later, RefusesSequence, no_expressions, in_one, no_sequence, in_several, RefusesLambda, no_closure, in_closure, RefusesDefined, in_value, parameter_twice, in_procedure, RefusesEach, in_first, in_others, RefusesBody, in_scan, in_plain, defined_twice, nothing_behind, no_definitions, in_values, in_rest, no_body_split}
 use Rattle.tb_expand.specs.Texts.{top_kind, MeansForm, an_expression, a_global, forms_of_begin, MeansForms, no_form, one_form, RefusesForm, in_expression, no_global, no_plain_name, no_room, in_global, in_forms, RefusesForms, in_form, in_later_form}
-use Rattle.tb_expand.specs.calls.Expand.{Answer, Made, Refused, Scanner, scan_define, scan_behind, scan_kind, scan_step, scan, Deeper, all, sequence, Bodies, lambda, procedure, defined, each, body_parts, body_defining, body_found, body_step, made, of_expression, step, expand, bodies, global_as, global, forms, form_of_kind, form_step, form}
+use Rattle.tb_expand.specs.calls.Expand.{Answer, Made, Refused, Scanner, scan_define, scan_behind, scan_kind, scan, Deeper, all, sequence, Bodies, lambda, procedure, defined, each, body_parts, body_defining, body_found, made, of_expression, expand, bodies, global_as, global, forms, form_of_kind, form}
 use Rattle.tb_expand.proofs.Answers.{Reaches, reached_now, on_reached, on_refused, limit_reached, limit_refused, along, one_level}
 
 -- scans

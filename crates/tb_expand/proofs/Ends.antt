@@ -1,22 +1,20 @@
 -- Expansion comes to an answer with as many levels as a datum has size.
-use Rattle.std.proofs.Common.{◌≡◌, ◌≢◌, refl, subst, sym, ℕ, zero, suc, ◌+◌, ◌≤◌, arith, Bool, true, List, [], ◌∷◌, ◌++◌, length, Option, Some, None}
+use Rattle.std.proofs.Common.{◌≡◌, refl, subst, sym, ℕ, zero, suc, ◌+◌, ◌≤◌, arith, true, List, [], ◌∷◌, ◌++◌, Option, Some, None}
 use Rattle.tb_prim.specs.declared.place.Place.{Place}
 use Rattle.tb_sexp.specs.Tree as datum
 use Rattle.tb_expand.specs.Names.{names, bound_twice}
-use Rattle.tb_expand.specs.Trees.{variables, Node, At, Core, If, SetLocal, SetGlobal, PrimUse, Apply, Call, Unspecified, Nodes, nil, cons, how_many}
-use Rattle.tb_expand.specs.Splits.{split}
+use Rattle.tb_expand.specs.Trees.{Nodes, nil, cons, how_many}
 use Rattle.tb_expand.specs.Words.{Meaning, Variable, Special, Integrated, Plain, word_of}
-use Rattle.tb_expand.specs.Refusals.{Refusal}
 use Rattle.tb_expand.specs.declared.context.Context.{Context}
 use Rattle.tb_expand.specs.Scopes.{State, fresh, enter}
-use Rattle.tb_expand.specs.Limits.{counted, opened, with_constant, inner, within, valued, how_many_data}
-use Rattle.tb_expand.specs.Shapes.{Formals, parameters, Pairs, Defined, Value, Procedure, Definition, definition_of}
-use Rattle.tb_expand.specs.Expressions.{Expression, Wrong, Constantly, Naming, Operands, Sequence, Procedural, Binding, Recursion, Build, Choosing, ChoosingOne, AssigningLocal, AssigningGlobal, Using, ApplyingTo, Calling, expression, built, follows}
+use Rattle.tb_expand.specs.Limits.{inner, within, valued, how_many_data}
+use Rattle.tb_expand.specs.Shapes.{Formals, parameters, Defined, Value, Procedure, Definition, definition_of}
+use Rattle.tb_expand.specs.Expressions.{Expression, Wrong, Constantly, Naming, Operands, Sequence, Procedural, Binding, Recursion, Build, Choosing, ChoosingOne, AssigningLocal, AssigningGlobal, Using, ApplyingTo, Calling, expression, built}
 use Rattle.tb_expand.specs.Bodies.{Kind, Defining, Beginning, kind, Found, and_one, and_then, defined_in, Scans, scanned, expressions, a_definition, a_begin}
 use Rattle.tb_expand.specs.Bodies as body
-use Rattle.tb_expand.specs.Means.{rest_context, bound_together, finished, letrec_body, MeansAll, no_more, one_more}
+use Rattle.tb_expand.specs.Means.{rest_context, letrec_body, MeansAll, no_more, one_more}
 use Rattle.tb_expand.specs.Texts.{top_kind}
-use Rattle.tb_expand.specs.calls.Expand.{Answer, Made, Refused, Unfinished, on, Scanner, scan_define, scan_behind, scan_begin, scan_kind, scan_step, scan, Deeper, all, sequence, Bodies, lambda, procedure, defined, each, finishing, body_parts, body_defining, body_found, body_step, made, let_form, letrec_form, of_expression, step, expand, bodies, Upper, global_as, global, forms, form_of_kind, form_step, form}
+use Rattle.tb_expand.specs.calls.Expand.{Made, Scanner, scan_define, scan_behind, scan_kind, scan_step, scan, Deeper, all, sequence, Bodies, lambda, procedure, defined, each, body_parts, body_defining, body_found, body_step, made, of_expression, step, expand, bodies, Upper, global_as, global, forms, form_of_kind, form}
 use Rattle.tb_expand.proofs.Answers.{Finished, on_finished, limit_finished}
 use Rattle.tb_expand.proofs.Sound.{IsScan, scan_sound, AreSo, all_so, Sound, sound}
 use Rattle.tb_expand.proofs.Sizes.{size, size_all, some_size, Suits, Fits, expression_fits, ValueFits, DefinitionFits, definition_fits, KindFits, kind_fits, top_kind_fits}

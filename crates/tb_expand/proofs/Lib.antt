@@ -6,3 +6,6 @@ pub mod Ends
 pub mod OneAnswer
 pub mod Lookups
 pub mod Rows
+pub mod Reading
+pub mod Counts
+pub mod Items

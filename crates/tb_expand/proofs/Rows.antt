@@ -1,5 +1,5 @@
 -- Rows of data as plain data.
-use Rattle.std.proofs.Common.{◌≡◌, refl, sym, ap, ◌∙◌, subst, ℕ, zero, suc, ◌+◌, ◌<◌, ◌≤◌, arith, List, [], ◌∷◌, ◌++◌, length, map, drop, drop-cons, get_or, append_assoc, add-one, Option, Some, None}
+use Rattle.std.proofs.Common.{◌≡◌, refl, sym, ap, ◌∙◌, ℕ, zero, suc, ◌+◌, ◌<◌, ◌≤◌, arith, List, [], ◌∷◌, ◌++◌, length, map, drop, drop-cons, get_or, append_assoc, add-one, Option, Some, None}
 use Rattle.std.proofs.lemmas.List.{map-append}
 use Rattle.tb_sexp.specs.declared.datum.Datum.{Datum}
 use Rattle.tb_sexp.specs.Tree as datum
@@ -8,8 +8,8 @@ use Rattle.tb_expand.specs.Names.{Binder}
 use Rattle.tb_expand.specs.declared.shapes.Binder.{Binder as BinderCode}
 use Rattle.tb_expand.specs.Shapes.{binder_of, binders_of, and_binder}
 use Rattle.tb_expand.specs.declared.shapes.Pair.{Pair as PairCode}
-use Rattle.tb_expand.specs.Shapes.{Pair, Pairs, pair_in, pairs_of, and_pair, elements_of}
-use Rattle.tb_expand.specs.View.{data_of, view_binder, view_pair, view_pairs}
+use Rattle.tb_expand.specs.Shapes.{Pairs, pair_in, pairs_of, and_pair, elements_of}
+use Rattle.tb_expand.specs.View.{data_of, view_binder, view_pair, view_pairs, NoBody}
 
 pub one_datum : (ds : List Datum) (a : Datum) → length ds ≡ 1 → data_of ds ≡ datum.more (data_view.view (get_or ds 0 a)) datum.none
 one_datum [] a h = absurd (omega arith)
@@ -121,3 +121,8 @@ pairs_alone (x ∷ bs) = ap (λ (qs : Pairs). record { binders = view_binder x.b
 
 pub pairs_put : (ds : List Datum) (i : ℕ) (bs : List PairCode) (z : Option Pairs) → length ds ≤ i → before_pairs bs (pairs_of (data_of (drop i ds))) ≡ z → z ≡ Some (view_pairs bs)
 pairs_put ds i bs z le h = sym h ∙ ap (λ xs. before_pairs bs (pairs_of (data_of xs))) (drop_none ds i le) ∙ ap Some (pairs_alone bs)
+
+pub no_body : (ds : List Datum) → length ds < 2 → NoBody (data_of ds)
+no_body [] h = tt
+no_body (x ∷ []) h = tt
+no_body (x ∷ y ∷ ds) h = absurd (omega arith)

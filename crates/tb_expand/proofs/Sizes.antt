@@ -1,24 +1,23 @@
 -- The parts of a form are smaller than it.
-use Rattle.std.proofs.Common.{◌≡◌, refl, ℕ, zero, suc, ◌+◌, ◌≤◌, ◌<◌, arith, Bool, true, false, cond, ◌==◌, List, [], ◌∷◌, ◌++◌, Option, Some, None}
+use Rattle.std.proofs.Common.{◌≡◌, refl, ℕ, ◌+◌, ◌≤◌, arith, Bool, true, false, cond, ◌==◌, Option, Some, None}
 use Rattle.tb_prim.specs.declared.place.Place.{Place}
 use Rattle.tb_prim.specs.declared.primitive.Primitive.{Primitive}
 use Rattle.tb_prim.specs.Primitives.{arity_of}
 use Rattle.tb_sexp.specs.Tree as datum
 use Rattle.tb_expand.specs.Names.{Binder, bound_twice}
-use Rattle.tb_expand.specs.Trees.{Nodes, nil, cons, how_many}
 use Rattle.tb_expand.specs.declared.form.Form.{Form}
 use Rattle.tb_expand.specs.declared.form.Form.TheVariants.{Quoting, Closure, Choice, Assigning, Defining, Beginning, Binding, Recursive, Applying, Later}
 use Rattle.tb_expand.specs.Words.{Meaning, Variable, Special, Integrated, Plain, is_of_many}
 use Rattle.tb_expand.specs.declared.context.Context.{Context}
 use Rattle.tb_expand.specs.Scopes.{State, meaning}
 use Rattle.tb_expand.specs.Limits.{how_many_data}
-use Rattle.tb_expand.specs.Shapes.{Sort, Itself, Word, Listed, Nothing, sort, binder_of, binder_at, Formals, formals_of, parameters, elements_of, Pair, pair_with, pair_in, Pairs, and_pair, pairs_of, pairs_in, Parts, QuoteOf, LambdaOf, IfOf, ShortIfOf, SetOf, BeginOf, LetOf, LetrecOf, ApplyOf, Unbuilt, quote_parts, lambda_of, lambda_parts, if_parts, set_of, set_parts, begin_parts, let_of, named_or, let_parts, letrec_of, letrec_parts, apply_parts, parts_of, Defined, Value, Procedure, Definition, value_definition, procedure_definition, procedure_at, definition_by, definition_of, all_fixed, with_rest, binders_of}
+use Rattle.tb_expand.specs.Shapes.{binder_of, Formals, formals_of, parameters, elements_of, Pair, pair_with, pair_in, Pairs, and_pair, pairs_of, pairs_in, Parts, QuoteOf, LambdaOf, IfOf, ShortIfOf, SetOf, BeginOf, LetOf, LetrecOf, ApplyOf, Unbuilt, quote_parts, lambda_of, lambda_parts, if_parts, set_of, set_parts, begin_parts, let_of, named_or, let_parts, letrec_of, letrec_parts, apply_parts, parts_of, Defined, Value, Procedure, Definition, value_definition, Target, target_of, procedure_definition, definition_by, definition_of}
 use Rattle.tb_expand.specs.Expressions as expr
 use Rattle.tb_expand.specs.Expressions.{Expression, Wrong, Constantly, Naming, Operands, Sequence, Procedural, Recursion, Build, Choosing, ChoosingOne, AssigningLocal, AssigningGlobal, Using, ApplyingTo, Calling, Head, Operator, Keyword, Primitively, head, word_alone, named, assigned, binding_once, of_parts, are_fixnums_in, constantly, misused, primitive_use, by_head, by_sort, expression}
 use Rattle.tb_expand.specs.Refusals as refusal
 use Rattle.tb_expand.specs.Bodies as body
 use Rattle.tb_expand.specs.Bodies.{Kind, kind_by, kind_in, kind, begins}
-use Rattle.tb_expand.specs.Texts.{top_kind_in, top_kind}
+use Rattle.tb_expand.specs.Texts.{top_kind}
 
 -- the lists inside a datum, dotted ones apart
 abbrev mutual
@@ -264,24 +263,18 @@ value_fits : (m n : ℕ) (b : Binder) (ds : datum.Trees) → size_all ds + 1 ≤
 value_fits m n b (datum.more d datum.none) h = omega arith
 value_fits m n b ds h = tt
 
-procedure_fits : (n : ℕ) (p : Place) (b : Option Binder) (f : Option Formals) (ds : datum.Trees) → size_all ds + 1 ≤ n → DefinitionFits n (procedure_definition p b f ds)
-procedure_fits n p (Some b) (Some f) (datum.more d ds) h = h
-procedure_fits n p (Some b) (Some f) datum.none h = tt
-procedure_fits n p (Some b) None ds h = tt
-procedure_fits n p None f ds h = tt
+procedure_fits : (n : ℕ) (p : Place) (t : Option Target) (ds : datum.Trees) → size_all ds + 1 ≤ n → DefinitionFits n (procedure_definition p t ds)
+procedure_fits n p (Some t) (datum.more d ds) h = h
+procedure_fits n p (Some t) datum.none h = tt
+procedure_fits n p None ds h = tt
 
-procedure_at_fits : (n : ℕ) (p : Place) (s : datum.Shape) (ds : datum.Trees) → size_all ds + 1 ≤ n → DefinitionFits n (procedure_at p s ds)
-procedure_at_fits n p (datum.Proper (datum.more h hs)) ds le = procedure_fits n p (binder_of h) (all_fixed (binders_of hs)) ds le
-procedure_at_fits n p (datum.Dotted (datum.more h hs) d) ds le = procedure_fits n p (binder_of h) (with_rest (binders_of hs) (binder_of d)) ds le
-procedure_at_fits n p s ds le = tt
-
-definition_by_fits : (n : ℕ) (p : Place) (o : Option Binder) (s : datum.Shape) (ds : datum.Trees) → size_all ds + 1 ≤ n → DefinitionFits n (definition_by p o s ds)
-definition_by_fits n p None s ds le = procedure_at_fits n p s ds le
-definition_by_fits n p (Some b) s ds le = value_fits 0 n b ds le
+definition_by_fits : (n : ℕ) (p : Place) (h : datum.Tree) (o : Option Binder) (ds : datum.Trees) → size_all ds + 1 ≤ n → DefinitionFits n (definition_by p h o ds)
+definition_by_fits n p h None ds le = procedure_fits n p (target_of h) ds le
+definition_by_fits n p h (Some b) ds le = value_fits 0 n b ds le
 
 pub definition_fits : (p : Place) (ds : datum.Trees) → DefinitionFits (size_all ds) (definition_of p ds)
 definition_fits p datum.none = tt
-definition_fits p (datum.more (datum.At q s) ds) = definition_by_fits (1 + size_in s + size_all ds) p (binder_at q (sort s)) s ds (omega arith)
+definition_fits p (datum.more h ds) = let s = some_size h in definition_by_fits (size h + size_all ds) p h (binder_of h) ds (omega arith)
 
 -- items of bodies and texts
 abbrev pub KindFits : ℕ → Kind → Type 0

@@ -1,23 +1,20 @@
 -- What expansion answers is so, whatever levels it was given.
-use Rattle.std.proofs.Common.{◌≡◌, ◌≢◌, refl, sym, ◌∙◌, ℕ, zero, suc, Bool, true, List, [], ◌∷◌, length, Option, Some, None}
+use Rattle.std.proofs.Common.{◌≡◌, ◌≢◌, refl, sym, ◌∙◌, ℕ, zero, suc, true, List, [], ◌∷◌, Option, Some, None}
 use Rattle.tb_prim.specs.declared.place.Place.{Place}
 use Rattle.tb_sexp.specs.Tree as datum
 use Rattle.tb_expand.specs.Names.{names, bound_twice}
-use Rattle.tb_expand.specs.Trees.{variables, Node, At, Core, Let, DefGlobal, Nodes, nil, cons, joined}
-use Rattle.tb_expand.specs.Splits.{split, node_of}
+use Rattle.tb_expand.specs.Trees.{Node, Core, Nodes}
 use Rattle.tb_expand.specs.Words.{Meaning, Variable, Special, Integrated, Plain, word_of}
-use Rattle.tb_expand.specs.Refusals as refusal
-use Rattle.tb_expand.specs.Refusals.{Refusal}
 use Rattle.tb_expand.specs.declared.context.Context.{Context}
 use Rattle.tb_expand.specs.Scopes.{State, fresh, enter}
-use Rattle.tb_expand.specs.Limits.{Within, Past, counted, opened, with_constant, inner, within, valued}
+use Rattle.tb_expand.specs.Limits.{Within, opened, inner, within, valued}
 use Rattle.tb_expand.specs.Shapes.{Formals, parameters, Pairs, Defined, Value, Procedure, Definition, definition_of}
-use Rattle.tb_expand.specs.Expressions.{Expression, Wrong, Constantly, Naming, Operands, Sequence, Procedural, Binding, Recursion, Build, expression, built, follows}
+use Rattle.tb_expand.specs.Expressions.{Expression, Wrong, Constantly, Naming, Operands, Sequence, Procedural, Binding, Recursion, Build, expression, built}
 use Rattle.tb_expand.specs.Bodies.{Kind, Defining, Beginning, kind, Found, and_one, and_then, defined_in, Scans, scanned, expressions, a_definition, a_begin, ScanRefuses, no_definition, behind_definition, in_begin, expression_in_begin, behind_begin}
 use Rattle.tb_expand.specs.Bodies as body
-use Rattle.tb_expand.specs.Means.{rest_context, bound_together, finished, letrec_body, Means, a_constant, a_name, operands, a_sequence, a_lambda, a_let, a_letrec, MeansAll, no_more, one_more, MeansSequence, alone, several, MeansLambda, closure, MeansDefined, a_value, a_procedure, MeansEach, none_defined, one_defined, MeansBody, plain_body, defining_body, Refuses, is_wrong, no_constant, no_objects, no_name, no_node, in_operands, behind_operands, in_sequence, in_lambda, no_let, in_let_values, in_let_body, no_letrec, in_letrec_values, in_letrec_body, no_split, RefusesAll, here, later, RefusesSequence, no_expressions, in_one, no_sequence, in_several, RefusesLambda, no_closure, in_closure, RefusesDefined, in_value, parameter_twice, in_procedure, RefusesEach, in_first, in_others, RefusesBody, in_scan, in_plain, defined_twice, nothing_behind, no_definitions, in_values, in_rest, no_body_split}
+use Rattle.tb_expand.specs.Means.{rest_context, letrec_body, Means, a_constant, a_name, operands, a_sequence, a_lambda, a_let, a_letrec, MeansAll, no_more, one_more, MeansSequence, alone, several, MeansLambda, closure, MeansDefined, a_value, a_procedure, MeansEach, none_defined, one_defined, MeansBody, plain_body, defining_body, Refuses, is_wrong, no_constant, no_objects, no_name, no_node, in_operands, behind_operands, in_sequence, in_lambda, no_let, in_let_values, in_let_body, no_letrec, in_letrec_values, in_letrec_body, no_split, RefusesAll, here, later, RefusesSequence, no_expressions, in_one, no_sequence, in_several, RefusesLambda, no_closure, in_closure, RefusesDefined, in_value, parameter_twice, in_procedure, RefusesEach, in_first, in_others, RefusesBody, in_scan, in_plain, defined_twice, nothing_behind, no_definitions, in_values, in_rest, no_body_split}
 use Rattle.tb_expand.specs.Texts.{top_kind, MeansForm, an_expression, a_global, forms_of_begin, MeansForms, no_form, one_form, RefusesForm, in_expression, no_global, no_plain_name, no_room, in_global, in_forms, RefusesForms, in_form, in_later_form}
-use Rattle.tb_expand.specs.calls.Expand.{Answer, Made, Refused, Unfinished, on, on_limit, Scanner, scan_define, scan_behind, scan_begin, scan_kind, scan_step, scan, Deeper, all, sequence, Bodies, lambda, procedure, defined, each, finishing, body_parts, body_defining, body_found, body_step, made, let_form, letrec_form, of_expression, step, expand, bodies, Upper, global_as, global, forms, form_of_kind, form_step, form}
+use Rattle.tb_expand.specs.calls.Expand.{Answer, Made, Refused, Unfinished, Scanner, scan_define, scan_behind, scan_kind, scan_step, scan, Deeper, all, sequence, Bodies, lambda, procedure, defined, each, body_parts, body_defining, body_found, body_step, made, let_form, letrec_form, of_expression, step, expand, bodies, Upper, global_as, global, forms, form_of_kind, form}
 use Rattle.tb_expand.proofs.Answers.{on_so, limit_so, same_so}
 
 -- an answer is so

@@ -2,16 +2,15 @@
 use Rattle.std.specs.Prelude.{◌≡◌, ◌≢◌, ℕ, Bool, true, false, List, [], ◌∷◌, ◌++◌, Option, Some, None}
 use Rattle.tb_prim.specs.declared.place.Place.{Place}
 use Rattle.tb_sexp.specs.Tree as datum
-use Rattle.tb_expand.specs.Names.{Name, Binder}
+use Rattle.tb_expand.specs.Names.{Binder}
 use Rattle.tb_expand.specs.Trees.{Var}
-use Rattle.tb_expand.specs.declared.form.Form.{Form}
 use Rattle.tb_expand.specs.declared.form.Form.TheVariants as word
 use Rattle.tb_expand.specs.Refusals.{Refusal, BadForm}
 use Rattle.tb_expand.specs.declared.context.Context.{Context}
 use Rattle.tb_expand.specs.Scopes.{State, fresh, enter}
 use Rattle.tb_expand.specs.Limits.{within}
-use Rattle.tb_expand.specs.Shapes.{Sort, Itself, Word, Listed, Nothing, sort, Defined, Definition, definition_of}
-use Rattle.tb_expand.specs.Expressions.{Head, Operator, Keyword, Primitively, head}
+use Rattle.tb_expand.specs.Shapes.{elements_of, Defined, Definition, definition_of}
+use Rattle.tb_expand.specs.Expressions.{Head, Operator, Keyword, Primitively, head, place_of}
 
 -- what an item of a body or of a text is
 pub data Kind : Type 0 where
@@ -29,8 +28,19 @@ defines_by (Keyword f) b = false
 
 abbrev mutual
   pub defines : State → Context → datum.Tree → Bool
-  defines st c (datum.At p (datum.Proper (datum.more h ds))) = defines_by (head st c h) (begins st c ds)
-  defines st c (datum.At p s) = false
+  defines st c (datum.At p datum.Nil) = false
+  defines st c (datum.At p (datum.Truth b)) = false
+  defines st c (datum.At p (datum.Fixnum n)) = false
+  defines st c (datum.At p (datum.Character n)) = false
+  defines st c (datum.At p (datum.String s)) = false
+  defines st c (datum.At p (datum.Name s alias)) = false
+  defines st c (datum.At p (datum.Proper ds)) = defines_in st c ds
+  defines st c (datum.At p (datum.Dotted ds d)) = false
+  defines st c (datum.At p (datum.Vector ds)) = false
+
+  pub defines_in : State → Context → datum.Trees → Bool
+  defines_in st c datum.none = false
+  defines_in st c (datum.more h ds) = defines_by (head st c h) (begins st c ds)
 
   pub begins : State → Context → datum.Trees → Bool
   begins st c datum.none = true
@@ -44,15 +54,14 @@ kind_by p ds true (Keyword word.Beginning) = Beginning p ds
 kind_by p ds false (Keyword word.Beginning) = Expression
 kind_by p ds b (Keyword f) = Expression
 
-abbrev pub kind_in : State → Context → Place → Sort → Kind
-kind_in st c p Itself = Expression
-kind_in st c p (Word x) = Expression
-kind_in st c p (Listed h ds) = kind_by p ds (begins st c ds) (head st c h)
-kind_in st c p Nothing = Expression
+abbrev pub kind_in : State → Context → Place → Option datum.Trees → Kind
+kind_in st c p None = Expression
+kind_in st c p (Some datum.none) = Expression
+kind_in st c p (Some (datum.more h ds)) = kind_by p ds (begins st c ds) (head st c h)
 
--- what an item of a body is in a scope
+-- what an item of a body is in a scope, by the elements of a list
 unfoldable pub kind : State → Context → datum.Tree → Kind
-kind st c (datum.At p s) = kind_in st c p (sort s)
+kind st c d = kind_in st c (place_of d) (elements_of d)
 
 -- what was found: the variables that are defined, with the names as they stand there, what they are defined as, and
 -- the expressions behind the definitions, with the scope of all of these

@@ -1,11 +1,10 @@
 -- Small texts, with the columns of their data as places.
-use Rattle.std.specs.Prelude.{ℕ, pos, false, List, [], ◌∷◌, Option, Some, None, codes}
+use Rattle.std.specs.Prelude.{ℕ, pos, false, List, [], ◌∷◌, Some, None, codes}
 use Rattle.tb_prim.specs.declared.place.Place.{Place}
 use Rattle.tb_prim.specs.declared.primitive.Primitive.TheVariants.{Cons, Car}
 use Rattle.tb_sexp.specs.Tree as datum
 use Rattle.tb_sexp.specs.View.{trees}
-use Rattle.tb_expand.specs.Names.{Name}
-use Rattle.tb_expand.specs.Trees.{Var, Node, At, Core, Constant, Undefined, Local, Global, Lambda, SetLocal, SetGlobal, DefGlobal, Let, Letrec, Seq, Call, PrimUse, Nodes, nil, cons}
+use Rattle.tb_expand.specs.Trees.{Var, Node, At, Constant, Undefined, Local, Global, Lambda, SetLocal, SetGlobal, DefGlobal, Let, Letrec, Seq, Call, PrimUse, Nodes, nil, cons}
 
 -- a place in the first line
 abbrev pub at : ℕ → Place
@@ -39,7 +38,6 @@ fixed n z = At (at n) (Constant (datum.Fixnum (pos z)))
 abbrev pub local : ℕ → Var → Node
 local n x = At (at n) (Local x)
 
-
 -- `(let ((a 1)) (cons a (car '(2))))`
 abbrev pub binding : datum.Trees
 binding =
@@ -72,7 +70,7 @@ splitting_nodes =
     (var 3 (codes "g")) (At (at 43) (Lambda [] (Some (var 6 (codes "x"))) (local 59 (var 6 (codes "x")))))) ∷
     At (at 1) (SetLocal (var 4 (codes "y")) (fixed 72 1)) ∷ At (at 75) (SetLocal (var 3 (codes "g")) (local 83
     (var 2 (codes "f")))) ∷ At (at 86) (Call (local 87 (var 2 (codes "f"))) (nodes (local 89 (var 4 (codes
-    "y")) ∷ []))) ∷ [])))))))))  ∷ [])
+    "y")) ∷ []))) ∷ []))))))))) ∷ [])
 
 -- `(lambda (car if) (if car))`
 abbrev pub hiding : datum.Trees
@@ -98,7 +96,7 @@ abbrev pub beginning_nodes : Nodes
 beginning_nodes =
     nodes (At (at 1) (Letrec (var 1 (codes "f") ∷ []) (nodes (At (at 20) (Lambda [] None (At (at 20) (Let (var
     3 (codes "a") ∷ []) (nodes (At (at 20) Undefined ∷ [])) (At (at 20) (Seq (nodes (At (at 20) (SetLocal (var
-    3 (codes "a")) (fixed 56 1)) ∷ local 68 (var 3 (codes "a")) ∷ [])))))))  ∷ [])) (local 74 (var 1 (codes
+    3 (codes "a")) (fixed 56 1)) ∷ local 68 (var 3 (codes "a")) ∷ []))))))) ∷ [])) (local 74 (var 1 (codes
     "f")))) ∷ [])
 
 -- `(begin (define (f) 'x) (begin)) (set! f f) (define list 1) list`
@@ -174,7 +172,7 @@ hidden_define_nodes =
     nodes (At (at 1) (Lambda [] None (At (at 1) (Let (var 2 (codes "define") ∷ []) (nodes (At (at 1) Undefined
     ∷ [])) (At (at 1) (Seq (nodes (At (at 1) (SetLocal (var 2 (codes "define")) (fixed 27 1)) ∷ At (at 30)
     (Call (local 31 (var 2 (codes "define"))) (nodes (At (at 38) (Global (codes "a")) ∷ fixed 40 2 ∷ []))) ∷
-    [])))))))  ∷ [])
+    []))))))) ∷ [])
 
 -- `(define f car) (if)`
 abbrev pub unbuilt : datum.Trees

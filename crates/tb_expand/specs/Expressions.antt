@@ -1,13 +1,13 @@
 -- What a datum is as an expression: its form, with its parts, or why it is none. The shape of a form is judged before
 -- any of its parts.
-use Rattle.std.specs.Prelude.{ℕ, ◌+◌, ◌==◌, ◌&&◌, Bool, true, false, cond, List, [], ◌∷◌, Option, Some, None}
+use Rattle.std.specs.Prelude.{ℕ, ◌==◌, ◌&&◌, Bool, true, false, cond, List, Option, Some, None}
 use Rattle.tb_prim.specs.declared.place.Place.{Place}
 use Rattle.tb_prim.specs.declared.primitive.Primitive.{Primitive}
 use Rattle.tb_prim.specs.Fixnums.{is_fixnum}
 use Rattle.tb_prim.specs.Primitives.{arity_of}
 use Rattle.tb_sexp.specs.Tree as datum
-use Rattle.tb_expand.specs.Names.{Name, Binder, bound_twice}
-use Rattle.tb_expand.specs.Trees.{Var, Node, At, Core, Unspecified, Local, Global, If, SetLocal, SetGlobal, DefGlobal, Call, PrimUse, Apply, Nodes, nil, cons}
+use Rattle.tb_expand.specs.Names.{Binder, bound_twice}
+use Rattle.tb_expand.specs.Trees.{Var, At, Core, Unspecified, Local, Global, If, SetLocal, SetGlobal, Call, PrimUse, Apply, Nodes, nil, cons}
 use Rattle.tb_expand.specs.declared.form.Form.{Form}
 use Rattle.tb_expand.specs.Words.{Meaning, Variable, Special, Integrated, Plain, is_of_many}
 use Rattle.tb_expand.specs.declared.form.Form.TheVariants as word
@@ -141,6 +141,11 @@ by_sort st c p s Itself = constantly p s
 by_sort st c p s (Word x) = named p (meaning st c x)
 by_sort st c p s (Listed h ds) = by_head st c p h ds (head st c h)
 by_sort st c p s Nothing = Wrong (refusal.BadForm p)
+
+-- the same of a list of these elements
+abbrev pub list_expression : State → Context → Place → datum.Trees → Expression
+list_expression st c p datum.none = Wrong (refusal.BadForm p)
+list_expression st c p (datum.more h ds) = by_head st c p h ds (head st c h)
 
 -- what a datum is as an expression
 unfoldable pub expression : State → Context → datum.Tree → Expression

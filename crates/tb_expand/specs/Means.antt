@@ -1,9 +1,9 @@
 -- What a datum means in a context, and the first refusal in it. The state is handed from each part to the next in
 -- written order, and what was made only grows.
-use Rattle.std.specs.Prelude.{◌≡◌, ◌≢◌, ℕ, ◌+◌, ◌-◌, ◌==◌, nat_le, Bool, true, false, cond, List, [], ◌∷◌, length, Option, Some, None}
+use Rattle.std.specs.Prelude.{◌≡◌, ◌≢◌, ℕ, ◌-◌, ◌==◌, nat_le, true, false, cond, List, [], ◌∷◌, length, Option, Some, None}
 use Rattle.tb_prim.specs.declared.place.Place.{Place}
 use Rattle.tb_sexp.specs.Tree as datum
-use Rattle.tb_expand.specs.Names.{Name, Binder, names, bound_twice}
+use Rattle.tb_expand.specs.Names.{Binder, names, bound_twice}
 use Rattle.tb_expand.specs.Trees.{Var, variables, Node, At, Core, Constant, Lambda, Let, Seq, Nodes, nil, cons}
 use Rattle.tb_expand.specs.Splits.{Split, split, node_of, inserted, first_deep}
 use Rattle.tb_expand.specs.Refusals.{Refusal, BadForm, Duplicate, TooDeep}
@@ -11,7 +11,7 @@ use Rattle.tb_expand.specs.declared.context.Context.{Context}
 use Rattle.tb_expand.specs.Scopes.{State, fresh, enter}
 use Rattle.tb_expand.specs.Limits.{Limited, Within, Past, counted, opened, with_constant, inner, within, valued, how_many_data}
 use Rattle.tb_expand.specs.Shapes.{Formals, parameters, Pairs, Defined, Value, Procedure}
-use Rattle.tb_expand.specs.Expressions.{Expression, Wrong, Constantly, Naming, Operands, Sequence, Procedural, Binding, Recursion, Build, expression, built, follows}
+use Rattle.tb_expand.specs.Expressions.{Wrong, Constantly, Naming, Operands, Sequence, Procedural, Binding, Recursion, Build, expression, built, follows}
 use Rattle.tb_expand.specs.Bodies.{Found, Scans, ScanRefuses}
 
 abbrev pub option_map : {X Y : Type 0} → (X → Y) → Option X → Option Y

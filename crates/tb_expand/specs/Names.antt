@@ -1,5 +1,5 @@
 -- Names, and lists of names that are bound together.
-use Rattle.std.specs.Prelude.{ℕ, ◌==◌, ◌&&◌, ◌||◌, Bool, false, cond, List, [], ◌∷◌, Option, Some, None, bytes_eq}
+use Rattle.std.specs.Prelude.{ℕ, ◌==◌, ◌&&◌, Bool, cond, List, [], ◌∷◌, ◌++◌, Option, Some, None, bytes_eq}
 use Rattle.std.specs.List.{list_any}
 use Rattle.tb_prim.specs.declared.place.Place.{Place}
 
@@ -27,7 +27,7 @@ names (b ∷ bs) = b.name ∷ names bs
 -- the place of the first binder that has one of these names or the name of a binder before it
 abbrev pub again : List Name → List Binder → Option Place
 again seen [] = None
-again seen (b ∷ bs) = cond (is_among b.name seen) (Some b.place) (again (b.name ∷ seen) bs)
+again seen (b ∷ bs) = cond (is_among b.name seen) (Some b.place) (again (seen ++ (b.name ∷ [])) bs)
 
 -- the place of the second of two binders with one name, the first such in written order
 abbrev pub bound_twice : List Binder → Option Place

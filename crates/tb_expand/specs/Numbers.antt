@@ -1,7 +1,7 @@
 -- Numbers: globals, variables, lambda expressions and nodes by first occurrence in written order, and static objects
 -- as they are finished. The written order takes a node before its parts, the parts in the order of their fields, and
 -- the parameters and the body of a lambda expression where it stands.
-use Rattle.std.specs.Prelude.{ℕ, ◌+◌, ◌==◌, Bool, true, false, cond, List, [], ◌∷◌, ◌++◌, length, map, Option, Some, None, bytes_eq}
+use Rattle.std.specs.Prelude.{ℕ, ◌+◌, Bool, true, false, cond, List, [], ◌∷◌, ◌++◌, length, map, Option, Some, None, bytes_eq}
 use Rattle.std.specs.List.{list_any}
 use Rattle.tb_prim.specs.declared.place.Place.{Place}
 use Rattle.tb_prim.specs.declared.constant.Const.{Const}
@@ -10,7 +10,6 @@ use Rattle.tb_prim.specs.declared.constant.GlobalName.{GlobalName}
 use Rattle.tb_sexp.specs.Tree as datum
 use Rattle.tb_core.specs.Tree as core
 use Rattle.tb_core.specs.Tree.{LambdaTree, ProgramTree}
-use Rattle.tb_expand.specs.Names.{Name}
 use Rattle.tb_expand.specs.Trees.{Var, same_var, Node, At, Core, Constant, Unspecified, Undefined, Local, Global, Lambda, If, SetLocal, SetGlobal, DefGlobal, Let, Letrec, Seq, Call, PrimUse, Apply, Nodes, nil, cons}
 use Rattle.tb_expand.specs.Shapes.{option_list}
 

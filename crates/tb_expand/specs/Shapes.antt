@@ -1,5 +1,5 @@
 -- The shapes of the forms, whatever their parts mean.
-use Rattle.std.specs.Prelude.{ℕ, List, [], ◌∷◌, ◌++◌, Option, Some, None}
+use Rattle.std.specs.Prelude.{List, [], ◌∷◌, ◌++◌, Option, Some, None}
 use Rattle.tb_prim.specs.declared.place.Place.{Place}
 use Rattle.tb_sexp.specs.Tree as datum
 use Rattle.tb_expand.specs.Names.{Name, Binder}
@@ -226,29 +226,48 @@ abbrev pub value_definition : Binder → datum.Trees → Option Definition
 value_definition b (datum.more d datum.none) = Some (record { binder = b; value = Value d })
 value_definition b ds = None
 
-abbrev pub procedure_definition : Place → Option Binder → Option Formals → datum.Trees → Option Definition
-procedure_definition p (Some b) (Some f) (datum.more d ds) = Some (record { binder = b; value = Procedure p f (datum.more d ds) })
-procedure_definition p b f ds = None
+-- the name and the parameters in `(f . formals)`
+pub record Target : Type 0 where
+  pub binder : Binder
+  pub formals : Formals
 
--- `(f . formals)` before a body
-abbrev pub procedure_at : Place → datum.Shape → datum.Trees → Option Definition
-procedure_at p datum.Nil ds = None
-procedure_at p (datum.Truth b) ds = None
-procedure_at p (datum.Fixnum n) ds = None
-procedure_at p (datum.Character c) ds = None
-procedure_at p (datum.String s) ds = None
-procedure_at p (datum.Name s alias) ds = None
-procedure_at p (datum.Proper datum.none) ds = None
-procedure_at p (datum.Proper (datum.more h hs)) ds = procedure_definition p (binder_of h) (all_fixed (binders_of hs)) ds
-procedure_at p (datum.Dotted datum.none d) ds = None
-procedure_at p (datum.Dotted (datum.more h hs) d) ds = procedure_definition p (binder_of h) (with_rest (binders_of hs) (binder_of d)) ds
-procedure_at p (datum.Vector hs) ds = None
+abbrev pub target_with : Option Binder → Option Formals → Option Target
+target_with None f = None
+target_with (Some b) None = None
+target_with (Some b) (Some f) = Some (record { binder = b; formals = f })
 
-abbrev pub definition_by : Place → Option Binder → datum.Shape → datum.Trees → Option Definition
-definition_by p None s ds = procedure_at p s ds
-definition_by p (Some b) s ds = value_definition b ds
+abbrev pub target_in : datum.Trees → Option Target
+target_in datum.none = None
+target_in (datum.more h hs) = target_with (binder_of h) (all_fixed (binders_of hs))
+
+abbrev pub target_before : datum.Trees → datum.Tree → Option Target
+target_before datum.none d = None
+target_before (datum.more h hs) d = target_with (binder_of h) (with_rest (binders_of hs) (binder_of d))
+
+abbrev pub target_at : datum.Shape → Option Target
+target_at datum.Nil = None
+target_at (datum.Truth b) = None
+target_at (datum.Fixnum n) = None
+target_at (datum.Character c) = None
+target_at (datum.String s) = None
+target_at (datum.Name s alias) = None
+target_at (datum.Proper hs) = target_in hs
+target_at (datum.Dotted hs d) = target_before hs d
+target_at (datum.Vector hs) = None
+
+abbrev pub target_of : datum.Tree → Option Target
+target_of (datum.At p s) = target_at s
+
+abbrev pub procedure_definition : Place → Option Target → datum.Trees → Option Definition
+procedure_definition p None ds = None
+procedure_definition p (Some t) datum.none = None
+procedure_definition p (Some t) (datum.more d ds) = Some (record { binder = t.binder; value = Procedure p t.formals (datum.more d ds) })
+
+abbrev pub definition_by : Place → datum.Tree → Option Binder → datum.Trees → Option Definition
+definition_by p h None ds = procedure_definition p (target_of h) ds
+definition_by p h (Some b) ds = value_definition b ds
 
 -- a definition at this place, from what stands behind `define` (R5RS 5.2)
 abbrev pub definition_of : Place → datum.Trees → Option Definition
 definition_of p datum.none = None
-definition_of p (datum.more (datum.At q s) ds) = definition_by p (binder_at q (sort s)) s ds
+definition_of p (datum.more h ds) = definition_by p h (binder_of h) ds

@@ -1,16 +1,15 @@
 -- The forms of a text, one after another, at top level.
-use Rattle.std.specs.Prelude.{◌≡◌, ◌≢◌, ℕ, Bool, true, false, List, [], ◌∷◌, Option, Some, None}
+use Rattle.std.specs.Prelude.{◌≡◌, ◌≢◌, ℕ, Bool, true, false, List, [], Option, Some, None}
 use Rattle.tb_prim.specs.declared.place.Place.{Place}
 use Rattle.tb_sexp.specs.Tree as datum
 use Rattle.tb_expand.specs.Trees.{Node, At, DefGlobal, Nodes, nil, cons, joined}
-use Rattle.tb_expand.specs.Words.{Meaning, Plain, word_of}
-use Rattle.tb_expand.specs.declared.form.Form.TheVariants as word
+use Rattle.tb_expand.specs.Words.{Plain, word_of}
 use Rattle.tb_expand.specs.Refusals.{Refusal, BadForm, Integrated, NotBuilt}
 use Rattle.tb_expand.specs.declared.context.Context.{Context}
 use Rattle.tb_expand.specs.Scopes.{State}
 use Rattle.tb_expand.specs.Limits.{Within, Past, opened, inner}
-use Rattle.tb_expand.specs.Shapes.{Sort, Itself, Word, Listed, Nothing, sort, Definition, definition_of}
-use Rattle.tb_expand.specs.Expressions.{Head, Operator, Keyword, Primitively, head}
+use Rattle.tb_expand.specs.Shapes.{elements_of, Definition, definition_of}
+use Rattle.tb_expand.specs.Expressions.{head, place_of}
 use Rattle.tb_expand.specs.Bodies.{Kind, Expression, Defining, Beginning, kind_by}
 use Rattle.tb_expand.specs.Means.{Means, Refuses, MeansDefined, RefusesDefined}
 use Rattle.tb_expand.specs.Outside.{defined_by_all, first_outside_of}
@@ -23,14 +22,13 @@ abbrev pub top_context : Bool → Context
 top_context library = record { library = library; scope = 0; levels = 1000; is_value = false }
 
 -- what a datum is at top level, where every `begin` stands for its forms
-abbrev pub top_kind_in : State → Context → Place → Sort → Kind
-top_kind_in st c p Itself = Expression
-top_kind_in st c p (Word x) = Expression
-top_kind_in st c p (Listed h ds) = kind_by p ds true (head st c h)
-top_kind_in st c p Nothing = Expression
+abbrev pub top_kind_in : State → Context → Place → Option datum.Trees → Kind
+top_kind_in st c p None = Expression
+top_kind_in st c p (Some datum.none) = Expression
+top_kind_in st c p (Some (datum.more h ds)) = kind_by p ds true (head st c h)
 
 unfoldable pub top_kind : State → Context → datum.Tree → Kind
-top_kind st c (datum.At p s) = top_kind_in st c p (sort s)
+top_kind st c d = top_kind_in st c (place_of d) (elements_of d)
 
 mutual
   -- the nodes that a form at top level stands for. What it defines is the global of the name's text, which is no

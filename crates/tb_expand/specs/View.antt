@@ -1,5 +1,5 @@
 -- The nodes that the types of trees are seen as.
-use Rattle.std.specs.Prelude.{◌≡◌, ℕ, List, [], ◌∷◌, map, reverse, Option, Some, None, Result, Ok, Err}
+use Rattle.std.specs.Prelude.{◌≡◌, ℕ, Bool, true, false, List, [], ◌∷◌, map, reverse, Option, Some, None, Result, Ok, Err}
 use Rattle.std.specs.Borrow.{Bor}
 use Rattle.tb_sexp.specs.View as data_view
 use Rattle.tb_expand.specs.declared.name.Name.{Name as NameCode}
@@ -17,11 +17,23 @@ use Rattle.tb_sexp.specs.Tree as datum
 use Rattle.tb_expand.specs.declared.shapes.Binder.{Binder as BinderCode}
 use Rattle.tb_expand.specs.declared.shapes.Formals.{Formals as FormalsCode}
 use Rattle.tb_expand.specs.declared.shapes.Pair.{Pair as PairCode}
-use Rattle.tb_expand.specs.Shapes.{Formals, Pair, Pairs}
+use Rattle.tb_expand.specs.declared.definition.Target.{Target as TargetCode}
+use Rattle.tb_expand.specs.declared.definition.Defined.{Defined as DefinedCode}
+use Rattle.tb_expand.specs.declared.definition.Defined.TheVariants as defined
+use Rattle.tb_expand.specs.declared.definition.Definition.{Definition as DefinitionCode}
+use Rattle.tb_expand.specs.declared.definition.Kind.{Kind as KindCode}
+use Rattle.tb_expand.specs.declared.definition.Kind.TheVariants as kind
+use Rattle.tb_expand.specs.Bodies as body
+use Rattle.tb_expand.specs.Bodies.{Kind}
+use Rattle.tb_expand.specs.Shapes.{Formals, Pair, Pairs, Target, Defined, Value, Procedure, Definition}
 use Rattle.tb_expand.specs.declared.expression.Build.{Build as BuildCode}
 use Rattle.tb_expand.specs.declared.expression.Build.TheVariants as build
 use Rattle.tb_expand.specs.declared.expression.Expression.{Expression as ExpressionCode}
 use Rattle.tb_expand.specs.declared.expression.Expression.TheVariants as expr
+use Rattle.tb_expand.specs.declared.expression.Head.{Head as HeadCode}
+use Rattle.tb_expand.specs.declared.expression.Head.TheVariants as head
+use Rattle.tb_expand.specs.Limits.{Limited, Within, Past, has_room}
+use Rattle.tb_expand.specs.Expressions.{Head, Operator, Keyword, Primitively}
 use Rattle.tb_expand.specs.declared.refusal.ExpandRefusal.{ExpandRefusal}
 use Rattle.tb_expand.specs.declared.refusal.ExpandRefusal.TheVariants as refused
 use Rattle.tb_expand.specs.Refusals.{Refusal, BadForm, Duplicate, Budget, TooDeep, NotBuilt}
@@ -153,6 +165,7 @@ view_expression (expr.Constant s) = Constantly (data_view.view_node s.now)
 view_expression (expr.Local x) = Naming (Local (view_variable x))
 view_expression (expr.Global g) = Naming (Global g.now)
 view_expression (expr.Operands k ds) = Operands (view_build k) (data_of ds.now)
+view_expression (expr.Assignment k d) = Operands (view_build k) (datum.more (data_view.view d.now) datum.none)
 view_expression (expr.Sequence ds) = Sequence (data_of ds.now)
 view_expression (expr.Procedure f b) = Procedural (view_formals f) (data_of b.now)
 view_expression (expr.Binding ps b) = Binding (view_pairs ps.items) (data_of b.now)
@@ -175,3 +188,45 @@ Fails P refused.NoMemory = Unit {0}
 abbrev pub IsRead : Expression → Result ExpressionCode ExpandRefusal → Type 0
 IsRead x (Ok e) = x ≡ view_expression e
 IsRead x (Err r) = Fails (λ q. x ≡ Wrong q) r
+
+-- a first datum, and one at least after it
+abbrev pub NoBody : datum.Trees → Type 0
+NoBody datum.none = Unit {0}
+NoBody (datum.more a datum.none) = Unit {0}
+NoBody (datum.more a (datum.more b ds)) = ⊥
+
+pub record HasBody (ds : datum.Trees) (a : datum.Tree) (b : datum.Trees) : Type 0 where
+  pub first : datum.Tree
+  pub rest : datum.Trees
+  pub body : b ≡ datum.more first rest
+  pub whole : ds ≡ datum.more a (datum.more first rest)
+
+abbrev pub view_head : HeadCode → Head
+view_head head.Operator = Operator
+view_head (head.Keyword f) = Keyword f
+view_head (head.Primitively q) = Primitively q
+
+-- a state within the limits, or what is past them
+abbrev pub IsLimited : {X : Type 0} → Limited → Result X ExpandRefusal → State → Type 0
+IsLimited l (Ok u) st = l ≡ Within st
+IsLimited l (Err r) st = Fails (λ q. l ≡ Past q) r
+
+-- a state as it was wanted, or one that has no room
+abbrev pub IsCounted : Bool → State → State → Type 0
+IsCounted true wanted st = st ≡ wanted
+IsCounted false wanted st = has_room wanted ≡ false
+
+abbrev pub view_target : TargetCode → Target
+view_target t = record { binder = view_binder t.binder; formals = view_formals t.formals }
+
+abbrev pub view_defined : DefinedCode → Defined
+view_defined (defined.Value d) = Value (data_view.view d.now)
+view_defined (defined.Procedure p f b) = Procedure p (view_formals f) (data_of b.now)
+
+abbrev pub view_definition : DefinitionCode → Definition
+view_definition i = record { binder = view_binder i.binder; value = view_defined i.value }
+
+abbrev pub view_kind : KindCode → Kind
+view_kind kind.Expression = body.Expression
+view_kind (kind.Defining p ds) = body.Defining p (data_of ds.now)
+view_kind (kind.Beginning p ds) = body.Beginning p (data_of ds.now)

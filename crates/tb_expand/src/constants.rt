@@ -7,8 +7,6 @@ ghost use Rattle.tb_sexp.specs.View as data_view;
 use tb_prim::is_fixnum;
 use tb_sexp::{Datum, Node};
 
-
-
 /// Whether each number in a datum is a fixnum.
 #[cycle(fixnums)]
 pub fn has_fixnums(datum: &Datum) -> bool

@@ -3,10 +3,12 @@
 
 mod constants;
 mod context;
+mod definition;
 mod examples;
 mod expression;
 mod form;
 mod laws;
+mod limits;
 mod name;
 mod refusal;
 mod shapes;
@@ -15,14 +17,18 @@ mod tree;
 
 pub use constants::{has_fixnums, node_has_fixnums};
 pub use context::Context;
+pub use definition::{
+    Defined, Definition, Kind, Target, defines, definition_of, form_kind, item_kind,
+};
 pub use examples::{worked_numbers, worked_refusals, worked_texts};
-pub use expression::{Build, Expression};
+pub use expression::{Build, Expression, Head, read_expression, read_head};
 pub use form::Form;
 pub use laws::{one_answer_a_datum, one_answer_a_text};
 pub use name::{Name, Variable};
 pub use refusal::ExpandRefusal;
 pub use shapes::{
-    Binder, Counted, Formals, Pair, behind, binder_of, binders_of, elements_of, formals_of, pairs_of,
+    Binder, Counted, Formals, Pair, behind, binder_of, binders_of, elements_of, formals_of,
+    pairs_of,
 };
 pub use state::{Meaning, Scope, State, find_meaning};
 pub use tree::{Core, Node};

@@ -1,10 +1,12 @@
 //! The shapes of forms.
 ghost use Rattle.std.specs.Prelude.{◌≡◌, IfOk, MatchOption, None, Some, map};
+ghost use Rattle.tb_expand.specs.Names as names;
 ghost use Rattle.tb_expand.specs.Shapes as shapes;
-ghost use Rattle.tb_expand.specs.View.{IsBehind, data_of, view_binder, view_formals, view_pair, view_pairs};
+ghost use Rattle.tb_expand.specs.View.{HasBody, IsBehind, NoBody, data_of, view_binder, view_formals, view_pair, view_pairs};
+ghost use Rattle.tb_sexp.specs.Tree as tree;
 ghost use Rattle.tb_sexp.specs.View as data_view;
 
-use super::name::Name;
+use super::name::{Name, is_among};
 use std::alloc::Global;
 use tb_prim::{NoMemory, Place};
 use tb_sexp::{Datum, Node};
@@ -84,10 +86,7 @@ pub struct Formals<'a> {
 }
 
 /// The parameters that a datum stands for: `(x ...)`, `(x ... . r)` or `r` (R5RS 4.1.4).
-pub fn formals_of<'a>(
-    alloc: Global,
-    datum: &'a Datum,
-) -> Result<Option<Formals<'a>>, NoMemory>
+pub fn formals_of<'a>(alloc: Global, datum: &'a Datum) -> Result<Option<Formals<'a>>, NoMemory>
     ensures { IfOk result (λ o. MatchOption o (shapes.formals_of (data_view.view datum.now) ≡ None) (λ f. shapes.formals_of (data_view.view datum.now) ≡ Some (view_formals f))) }
 {
     match &datum.node {
@@ -161,10 +160,7 @@ fn pair_of<'a>(datum: &'a Datum) -> Option<Pair<'a>>
 }
 
 /// The bindings, where the data are all bindings.
-pub fn pairs_of<'a>(
-    alloc: Global,
-    datums: &'a [Datum],
-) -> Result<Option<Vec<Pair<'a>>>, NoMemory>
+pub fn pairs_of<'a>(alloc: Global, datums: &'a [Datum]) -> Result<Option<Vec<Pair<'a>>>, NoMemory>
     ensures { IfOk result (λ o. MatchOption o (shapes.pairs_of (data_of datums.now) ≡ None) (λ ps. shapes.pairs_of (data_of datums.now) ≡ Some (view_pairs ps.items))) }
 {
     let mut pairs = Vec::new(alloc);
@@ -175,4 +171,62 @@ pub fn pairs_of<'a>(
         }
     }
     Ok(Some(pairs))
+}
+
+/// The first datum and those after it, of which there is one at least.
+pub fn first_and_body<'a>(datums: &'a [Datum]) -> Option<(&'a Datum, &'a [Datum])>
+    ensures { MatchOption result (NoBody (data_of datums.now)) (λ parts. HasBody (data_of datums.now) (data_view.view parts.0.now) (data_of parts.1.now)) }
+{
+    if datums.len() < 2 {
+        None
+    } else {
+        Some((&datums[0], &datums[1..]))
+    }
+}
+
+/// All parameters, the rest one last.
+pub fn parameters_of<'a>(alloc: Global, formals: &Formals<'a>) -> Result<Vec<Binder<'a>>, NoMemory>
+    ensures { IfOk result (λ bs. map view_binder bs.items ≡ shapes.parameters (view_formals formals.now)) }
+{
+    let mut binders = formals.fixed.to_vec(alloc)?;
+    if let Some(rest) = formals.rest {
+        binders.push(rest)?;
+    }
+    Ok(binders)
+}
+
+/// The names of bindings.
+pub fn pair_binders<'a>(alloc: Global, pairs: &[Pair<'a>]) -> Result<Vec<Binder<'a>>, NoMemory>
+    ensures { IfOk result (λ bs. map view_binder bs.items ≡ (view_pairs pairs.now).binders) }
+{
+    let mut binders = Vec::new(alloc);
+    for pair in pairs {
+        binders.push(pair.binder)?;
+    }
+    Ok(binders)
+}
+
+/// The place of the second of two binders with one name, the first such in written order.
+pub fn bound_twice(alloc: Global, binders: &[Binder]) -> Result<Option<Place>, NoMemory>
+    ensures { IfOk result (λ o. o ≡ names.bound_twice (map view_binder binders.now)) }
+{
+    let mut seen = Vec::new(alloc);
+    for binder in binders {
+        if is_among(binder.name, seen.as_slice()) {
+            return Ok(Some(binder.place));
+        }
+        seen.push(binder.name)?;
+    }
+    Ok(None)
+}
+
+/// The first datum and those after it.
+pub fn first_and_rest<'a>(datums: &'a [Datum]) -> Option<(&'a Datum, &'a [Datum])>
+    ensures { MatchOption result (data_of datums.now ≡ tree.none) (λ parts. data_of datums.now ≡ tree.more (data_view.view parts.0.now) (data_of parts.1.now)) }
+{
+    if datums.is_empty() {
+        None
+    } else {
+        Some((&datums[0], &datums[1..]))
+    }
 }

@@ -38,11 +38,7 @@ pub enum Meaning<'a> {
 }
 
 /// The innermost binding of the name, from the scope of this number outwards.
-pub fn find_binding<'a>(
-    scopes: &[Scope<'a>],
-    scope: usize,
-    name: Name<'a>,
-) -> Option<Variable<'a>>
+pub fn find_binding<'a>(scopes: &[Scope<'a>], scope: usize, name: Name<'a>) -> Option<Variable<'a>>
     ensures { view_option result ≡ binding (older scopes.now) scope (view_name name.entry) }
 {
     let mut limit = scopes.len();

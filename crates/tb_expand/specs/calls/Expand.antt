@@ -1,5 +1,5 @@
 -- Expansion as a function, with so many levels to go.
-use Rattle.std.specs.Prelude.{◌≡◌, ◌≢◌, ℕ, zero, suc, ◌≤◌, Bool, true, cond, List, [], ◌∷◌, length, Option, Some, None}
+use Rattle.std.specs.Prelude.{ℕ, zero, suc, true, List, [], ◌∷◌, length, Option, Some, None}
 use Rattle.tb_prim.specs.declared.place.Place.{Place}
 use Rattle.tb_sexp.specs.Tree as datum
 use Rattle.tb_expand.specs.Names.{names, bound_twice}
@@ -16,8 +16,7 @@ use Rattle.tb_expand.specs.Expressions.{Expression, Wrong, Constantly, Naming, O
 use Rattle.tb_expand.specs.Bodies.{Kind, Defining, Beginning, kind, Found, nothing_more, and_one, and_then, defined_in}
 use Rattle.tb_expand.specs.Bodies as body
 use Rattle.tb_expand.specs.Means.{fixed_variables, rest_variable, lambda_nodes, bound_together, rest_context, finished, letrec_body}
-use Rattle.tb_expand.specs.Texts.{no_state, top_context, top_kind}
-use Rattle.tb_expand.specs.Outside.{defined_by_all, first_outside_of}
+use Rattle.tb_expand.specs.Texts.{top_kind}
 
 -- answers
 pub data Answer (X : Type 0) : Type 0 where

@@ -1,7 +1,5 @@
 use Rattle.std.proofs.Common.{refl, false}
-use Rattle.tb_sexp.specs.Tree as datum
 use Rattle.tb_expand.specs.Names.{same_name}
-use Rattle.tb_expand.specs.Trees.{Nodes}
 use Rattle.tb_expand.specs.Words.{forms, later_forms, word_of}
 use Rattle.tb_expand.specs.Scopes.{binding}
 use Rattle.tb_expand.specs.Limits.{opened, counted, with_constant}

@@ -1,4 +1,4 @@
-use Rattle.std.proofs.Common.{◌≡◌, sym, ap, ◌∙◌, arith, map, ◌-◌, take, inl, inr}
+use Rattle.std.proofs.Common.{sym, ap, ◌∙◌, arith, map, ◌-◌, take, inl, inr}
 use Rattle.tb_expand.specs.Scopes.{binding}
 use Rattle.tb_expand.specs.Names.{is_among}
 use Rattle.tb_expand.specs.View.{view_name, view_scope, older}
@@ -26,6 +26,6 @@ loop-number-preserved c =
 pub returns : goal.returns
 returns c =
     elim c.loop-number-test.branch [
-      then-loop-number-test+else-number-limit w ↦ sym (found_nowhere c.args.scopes.now c.loop-number.number (view_name c.args.name) c.loop-number.limit c.loop-number.invariant.within (inr (omega arith))) ∙ c.loop-number.invariant.same
-    | else-loop-number-test w ↦ sym (found_nowhere c.args.scopes.now c.loop-number.number (view_name c.args.name) c.loop-number.limit c.loop-number.invariant.within (inl (omega arith))) ∙ c.loop-number.invariant.same
+      | then-loop-number-test+else-number-limit w ↦ sym (found_nowhere c.args.scopes.now c.loop-number.number (view_name c.args.name) c.loop-number.limit c.loop-number.invariant.within (inr (omega arith))) ∙ c.loop-number.invariant.same
+      | else-loop-number-test w ↦ sym (found_nowhere c.args.scopes.now c.loop-number.number (view_name c.args.name) c.loop-number.limit c.loop-number.invariant.within (inl (omega arith))) ∙ c.loop-number.invariant.same
     ]
