@@ -71,12 +71,12 @@ module _ (I : ℕ → List ℕ) (n y : ℕ) (named : IsIn y (I n)) where
   held-trees es i = held_all es i
 
 -- the lambda expression in which another stands
-within_lambdas : (ls : List LambdaTree) (first n : ℕ) → InnerAreGreater first ls → IsIn n (inner_of_lambdas ls) → (m : ℕ) × (l : LambdaTree) × (slice_get ls m ≡ Some l) × IsIn n (inner l.body) × (first + m < n)
-within_lambdas [] first n h i = absurd i
-within_lambdas (l ∷ ls) first n h i =
+pub within-lambdas : (ls : List LambdaTree) (first n : ℕ) → InnerAreGreater first ls → IsIn n (inner_of_lambdas ls) → (m : ℕ) × (l : LambdaTree) × (slice_get ls m ≡ Some l) × IsIn n (inner l.body) × (first + m < n)
+within-lambdas [] first n h i = absurd i
+within-lambdas (l ∷ ls) first n h i =
     ⊎_elim
     (λ j. (0, l, refl, j, less (inner l.body) j h.0))
-    (λ j. let k = within_lambdas ls (suc first) n h.1 j in (suc k.0, k.1, k.2, k.3, omega (arith, k.4)))
+    (λ j. let k = within-lambdas ls (suc first) n h.1 j in (suc k.0, k.1, k.2, k.3, omega (arith, k.4)))
     (in-either n (inner l.body) _ i)
   where
     less : (xs : List ℕ) → IsIn n xs → Every (λ m. first < m) xs → first + 0 < n
@@ -92,11 +92,11 @@ lambda-bound (k ∷ ls) zero l y e i =
     ⊎_elim (in-left y (parameters k) _) (λ b. in-right y (parameters k) _ (in-left y (bound k.body) _ b)) (in-either y (parameters k) _ j)
 lambda-bound (k ∷ ls) (suc m) l y e i = in-right y (parameters k) _ (in-right y (bound k.body) _ (lambda-bound ls m l y e i))
 
-no_lambda : (ls : List LambdaTree) (first l : ℕ) → length ls + first ≤ l → lambdas_free ls first l ≡ []
-no_lambda [] first l h = refl
-no_lambda (m ∷ ms) first l h =
+pub no-lambda : (ls : List LambdaTree) (first l : ℕ) → length ls + first ≤ l → lambdas_free ls first l ≡ []
+no-lambda [] first l h = refl
+no-lambda (m ∷ ms) first l h =
     let other : (first == l) ≡ false = ⊎_elim (λ s. let z = eqb-true first l s in absurd (omega arith)) (λ n. n) (cases_Bool (first == l)) in
-    ap (λ b. cond b (lambda_free (lambdas_free ms (suc first)) m) (lambdas_free ms (suc first) l)) other ∙ no_lambda ms (suc first) l (omega arith)
+    ap (λ b. cond b (lambda_free (lambdas_free ms (suc first)) m) (lambdas_free ms (suc first) l)) other ∙ no-lambda ms (suc first) l (omega arith)
 
 every_at : (P : ℕ → Type 0) (xs : List ℕ) (x : ℕ) → Every P xs → IsIn x xs → P x
 every_at P [] x h i = absurd i
@@ -118,7 +118,7 @@ module _ (p : ProgramTree) (rules : KeepsRules p) where
       let stands = in-tested (standing p) n (rules.lambdas_at_least_once n inside) in
       ⊎_elim
       (λ j. ⊎_elim (λ f. absurd (subst (IsIn y) rules.in_scope f)) (λ m. variable-small y (in-left y (bound_all p.forms) _ m)) (held-trees (inner_free p) n y i p.forms j))
-      (λ j. let k = within_lambdas p.lambdas 0 n rules.inner_greater j in
+      (λ j. let k = within-lambdas p.lambdas 0 n rules.inner_greater j in
       let less = k.4 in
       ⊎_elim
       (λ f. ⊎_elim
@@ -128,7 +128,7 @@ module _ (p : ProgramTree) (rules : KeepsRules p) where
       (λ m. of_lambda k.0 k.1 y k.2 (in-right y (parameters k.1) _ m))
       (held-tree (inner_free p) n y i (k.1).body k.3))
       (in-either n (inner_all p.forms) _ stands))
-      (λ out. absurd (subst (IsIn y) (no_lambda p.lambdas 0 n (omega arith)) i))
+      (λ out. absurd (subst (IsIn y) (no-lambda p.lambdas 0 n (omega arith)) i))
       (cases_lt n (length p.lambdas))
 
   pub inner-small : (n : ℕ) → AreSmall (inner_free p n)

@@ -21,3 +21,5 @@ pub mod Scoped
 pub mod InnerSmall
 pub mod Sites
 pub mod ReadyFrom
+pub mod Named
+pub mod AllNamed
