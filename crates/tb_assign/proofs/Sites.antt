@@ -1,5 +1,5 @@
 -- The lines of an order stand at nodes of the program, whose numbers are small.
-use Rattle.std.proofs.Common.{◌≡◌, refl, sym, ap, ◌∙◌, subst, ℕ, zero, suc, ◌+◌, ◌^◌, ◌<◌, ◌≤◌, ⊎_elim, arith, Bool, true, false, cond, ◌==◌, List, [], ◌∷◌, ◌++◌, length, Option, Some, None, slice_get, eqb-true}
+use Rattle.std.proofs.Common.{◌≡◌, refl, ap, ◌∙◌, ℕ, suc, ◌^◌, ◌<◌, ◌≤◌, ⊎_elim, arith, Bool, true, false, cond, ◌==◌, List, [], ◌∷◌, ◌++◌, Option, Some, None, eqb-true}
 use Rattle.std.proofs.lemmas.Bool.{cases_Bool}
 use Rattle.tb_prim.specs.declared.place.Place.{Place}
 use Rattle.tb_core.specs.Tree.{Tree, Node, Form, Quote, Local, Global, Lambda, If, SetLocal, SetGlobal, DefGlobal, Let, Letrec, Seq, Call, PrimUse, Apply, Trees, none, more, LambdaTree, ProgramTree}
@@ -39,7 +39,8 @@ module _ (g : ℕ → Bool) (inner : ℕ → List Line) (small : (l : ℕ) → S
     small_form (Local x) n = tt
     small_form (Global x) n = tt
     small_form (Lambda l) n = small l
-    small_form (If a b c) n = append (lines g inner a) _ (small_lines a n.0) (append (lines g inner b) _ (small_lines b n.1) (small_lines c n.2))
+    small_form (If a b c) n = append (lines g inner a) _ (small_lines a n.0)
+        (append (lines g inner b) _ (small_lines b n.1) (small_lines c n.2))
     small_form (SetLocal x e) n = small_lines e n
     small_form (SetGlobal x e) n = small_lines e n
     small_form (DefGlobal x e) n = small_lines e n
@@ -54,22 +55,32 @@ module _ (g : ℕ → Bool) (inner : ℕ → List Line) (small : (l : ℕ) → S
     small_all none n = tt
     small_all (more e es) n = append (lines g inner e) _ (small_lines e n.0) (small_all es n.1)
 
-small_lambda : (g : ℕ → Bool) (ms : List LambdaTree) (m : LambdaTree) (first l : ℕ) (b : Bool) → Each SmallSite m.body → ((k : ℕ) → Small (lambdas_lines g ms (suc first) k)) → Small (cond b (lines g (lambdas_lines g ms (suc first)) m.body) (lambdas_lines g ms (suc first) l))
+small_lambda : (g : ℕ → Bool) (ms : List LambdaTree) (m : LambdaTree) (first l : ℕ) (b : Bool) →
+    Each SmallSite m.body → ((k : ℕ) → Small (lambdas_lines g ms (suc first) k)) →
+    Small (cond b (lines g (lambdas_lines g ms (suc first)) m.body) (lambdas_lines g ms (suc first) l))
 small_lambda g ms m first l true n rest = small_lines g (lambdas_lines g ms (suc first)) rest m.body n
 small_lambda g ms m first l false n rest = rest l
 
-small_lambdas : (g : ℕ → Bool) (ls : List LambdaTree) (first l : ℕ) → Every (λ (m : LambdaTree). Each SmallSite m.body) ls → Small (lambdas_lines g ls first l)
+small_lambdas : (g : ℕ → Bool) (ls : List LambdaTree) (first l : ℕ) →
+    Every (λ (m : LambdaTree). Each SmallSite m.body) ls → Small (lambdas_lines g ls first l)
 small_lambdas g [] first l n = tt
-small_lambdas g (m ∷ ms) first l n = small_lambda g ms m first l (first == l) n.0 (λ k. small_lambdas g ms (suc first) k n.1)
+small_lambdas g (m ∷ ms) first l n = small_lambda g ms m first l (first == l) n.0
+    (λ k. small_lambdas g ms (suc first) k n.1)
 
-none_first : (s n : ℕ) (l : List ℕ) (o : Option (List ℕ)) → s < 2 ^ 24 → 2 ^ 24 ≤ n → o ≡ None → cond (s == n) (Some l) o ≡ None
+none_first : (s n : ℕ) (l : List ℕ) (o : Option (List ℕ)) → s < 2 ^ 24 → 2 ^ 24 ≤ n → o ≡ None →
+    cond (s == n) (Some l) o ≡ None
 none_first s n l o lt le e =
-    ap (λ b. cond b (Some l) o) (⊎_elim (λ t. let z = eqb-true s n t in absurd (omega arith)) (λ f. f) (cases_Bool (s == n))) ∙ e
+    ap (λ b. cond b (Some l) o)
+    (⊎_elim (λ t. let z = eqb-true s n t in absurd (omega arith)) (λ f. f) (cases_Bool (s == n))) ∙ e
 
 none_there : (ls : List Line) (n : ℕ) → Small ls → 2 ^ 24 ≤ n → T.line_of ls n ≡ None
 none_there [] n h le = refl
 none_there (l ∷ ls) n h le = none_first l.site n l.order (T.line_of ls n) h.0 le (none_there ls n h.1 le)
 
 -- no line of the order of a program has a number past those of its nodes
-pub lines-small : (p : ProgramTree) → EachAll SmallSite p.forms → Every (λ (m : LambdaTree). Each SmallSite m.body) p.lambdas → (n : ℕ) → 2 ^ 24 ≤ n → T.line_of (order_of p) n ≡ None
-lines-small p forms bodies n le = none_there (order_of p) n (small_all (is_assigned p) (lambdas_lines (is_assigned p) p.lambdas 0) (λ l. small_lambdas (is_assigned p) p.lambdas 0 l bodies) p.forms forms) le
+pub lines-small : (p : ProgramTree) → EachAll SmallSite p.forms →
+    Every (λ (m : LambdaTree). Each SmallSite m.body) p.lambdas → (n : ℕ) → 2 ^ 24 ≤ n →
+    T.line_of (order_of p) n ≡ None
+lines-small p forms bodies n le = none_there (order_of p) n
+    (small_all (is_assigned p) (lambdas_lines (is_assigned p) p.lambdas 0)
+    (λ l. small_lambdas (is_assigned p) p.lambdas 0 l bodies) p.forms forms) le
