@@ -1,15 +1,13 @@
 -- How a program with cells and its source go on together: related states, and states of the program with cells
 -- from which it comes to related ones by itself, while a measure falls.
-use Rattle.std.proofs.Common.{◌≡◌, refl, sym, ap, ◌∙◌, subst, subst₂, ℕ, zero, suc, ◌+◌, ◌-◌, ◌*◌, ◌<◌, ◌≤◌, inl, inr, ⊎_elim, arith, Bool, true, false, cond, ◌==◌, IsTrue, List, [], ◌∷◌, ◌++◌, length, Option, Some, None, slice_get, slice_set, eq-eqb, eqb-true, append_assoc}
-use Rattle.std.proofs.lemmas.Bool.{cases_Bool, eqb-false}
+use Rattle.std.proofs.Common.{◌≡◌, refl, sym, ap, ◌∙◌, subst, ℕ, suc, ◌+◌, ◌-◌, ◌*◌, ◌<◌, Bool, true, false, IsTrue, List, [], ◌∷◌, ◌++◌, length, Some, append_assoc}
 use Rattle.tb_prim.specs.declared.place.Place.{Place}
 use Rattle.tb_prim.specs.declared.event.Event.{Event}
-use Rattle.tb_prim.specs.declared.event.Cause.{Cause}
-use Rattle.tb_semantics.specs.Graph.{IsIn, Reaches, root, below}
+use Rattle.tb_semantics.specs.Graph.{IsIn, root, below}
 use Rattle.tb_semantics.proofs.Simulation as Sim
 use Rattle.tb_semantics.proofs.Reachable.{HasMatch, in_below}
-use Rattle.tb_semantics.proofs.Worlds.{Entry, Both, Only, World, Grows, Stores, stores_stay, both_made, both_written, grows_one}
-use Rattle.tb_core.specs.Tree.{Tree, Node, Form, Local, SetLocal, Trees, ProgramTree}
+use Rattle.tb_semantics.proofs.Worlds.{Both, World, Stores}
+use Rattle.tb_core.specs.Tree.{Tree, Node, Local, SetLocal, ProgramTree}
 use Rattle.tb_core.specs.FreeVariables.{is_assigned}
 use Rattle.tb_core.specs.OperandOrder.{order_of}
 use Rattle.tb_core.specs.Rules.{Each, is_mark}
@@ -29,10 +27,9 @@ use Rattle.tb_ir.specs.Measures.{tree_measured}
 use Rattle.tb_assign.specs.Eliminate.{cell_name, eliminate, cells_of}
 use Rattle.tb_assign.proofs.Rel as Rel
 use Rattle.tb_assign.proofs.Rel.{Partner, Alike, AllAlike, VarRel, EnvRel, Covers, ControlRel, WorkRel, FramesRel, ItemRel, Known, may_top}
-use Rattle.tb_assign.proofs.Grow as Grow
 use Rattle.tb_assign.proofs.Grow.{items}
-use Rattle.tb_assign.proofs.Match.{Matches, match-none, match-append, match-value, match-values, match-env, match-frames, match-one, sources}
-use Rattle.tb_assign.proofs.Shape.{Held, alike-held, holds-for, cell_roots, source_roots}
+use Rattle.tb_assign.proofs.Match.{Matches, match-append, match-value, match-values, match-env, match-frames, match-one, sources}
+use Rattle.tb_assign.proofs.Shape.{Held, holds-for, source_roots}
 
 -- what is left of steps that the program with cells takes by itself
 abbrev mutual
@@ -86,18 +83,24 @@ pub data Base (p : ProgramTree) : T.TreeState → R.State → Type 0 where
   -- the cell of a variable that is read is known
   reading : {w : World Value} {c : T.TreeConfig} {d : R.Config} {es : List Event} {q : Place} {s x t l : ℕ} {r : S.Env} {fs : List (M.Frame T.TreeWork)} →
       Ground p w c d → FramesRel p w fs d.frames → c.control ≡ M.Val (At t) →
-      c.frames ≡ record { marked = false; work = M.Own
-          (T.Args q s (C.CellGet (cell_name (is_assigned p) q s x)) [] M.Empty) } ∷ fs →
+      c.frames ≡ record {
+        marked = false;
+        work = M.Own
+            (T.Args q s (C.CellGet (cell_name (is_assigned p) q s x)) [] M.Empty);
+      } ∷ fs →
       d.control ≡ R.Eval (Node q s (Local x)) r → S.lookup r x ≡ Some l → IsIn (Both t l) w → Held p w c d →
-          Base p (M.Running c es) (R.Running d es)
+      Base p (M.Running c es) (R.Running d es)
   -- the cell of a variable that is set is known
   setting : {w : World Value} {c : T.TreeConfig} {d : R.Config} {es : List Event} {q : Place} {s x t l : ℕ} {e : Tree} {h : M.Env} {r : S.Env} {fs : List (M.Frame T.TreeWork)} →
       Ground p w c d → FramesRel p w fs d.frames → c.control ≡ M.Val (At t) →
-      c.frames ≡ record { marked = false; work = M.Own
-          (T.Args q s (C.CellSet (cell_name (is_assigned p) q s x) (eliminate (is_assigned p) e)) [] h) } ∷ fs →
+      c.frames ≡ record {
+        marked = false;
+        work = M.Own
+            (T.Args q s (C.CellSet (cell_name (is_assigned p) q s x) (eliminate (is_assigned p) e)) [] h);
+      } ∷ fs →
       d.control ≡ R.Eval (Node q s (SetLocal x e)) r → S.lookup r x ≡ Some l → IsIn (Both t l) w →
       Each (Rel.Good p) e → is_mark e ≡ false → Covers (Rel.free_cells p e) h → EnvRel (is_assigned p) w h r →
-          Held p w c d → Base p (M.Running c es) (R.Running d es)
+      Held p w c d → Base p (M.Running c es) (R.Running d es)
 
 abbrev pub step : ProgramTree → T.TreeState → T.TreeState
 step p = M.step (T.language (cells_of p) (order_of p))
@@ -124,7 +127,6 @@ same_long w b _ _ Like.nothing = refl
 same_long w b _ _ (Like.further h hs) = ap suc (same_long w b _ _ hs)
 
 module _ (p : ProgramTree) (w : World Value) (c : T.TreeConfig) (d : R.Config) (g : Ground p w c d) where
-
   match_statics : Matches w (sources p w d.store (source_roots p d)) (below (length p.statics))
       (below (length p.statics))
   match_statics = record { by = λ all l i. (l, all l i, g.statics l (in_below (length p.statics) l i)) }
@@ -150,12 +152,12 @@ module _ (p : ProgramTree) (w : World Value) (c : T.TreeConfig) (d : R.Config) (
     stores = g.stores;
     roots = subst
         (λ ls. (t : ℕ) → IsIn t (below (length p.statics) ++ ls) →
-            HasMatch (Partner w) (sources p w d.store (source_roots p d)) t)
+        HasMatch (Partner w) (sources p w d.store (source_roots p d)) t)
         (sym (append_assoc k _ _) ∙ ap (λ ls. ls ++ values_locations c.globals) (sym e)
-            ∙ append_assoc (V.control_locations c.control) _ _)
+        ∙ append_assoc (V.control_locations c.control) _ _)
         ((match-append w _ match_statics (match-append w _ h (match-append w _
         (match-frames p w d.store (source_roots p d)
-            (holds-for p w c.store d.store (source_roots p d) g.stores) fs d.frames f)
+        (holds-for p w c.store d.store (source_roots p d) g.stores) fs d.frames f)
         (match-values w _ true c.globals d.globals g.globals)))).by (λ l i. root i));
   }
 

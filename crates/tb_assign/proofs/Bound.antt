@@ -1,21 +1,18 @@
 -- What is bound at the head of a body: in the source variables that hold values, with cells the values of variables
 -- that are not assigned and of fresh ones for the others.
-use Rattle.std.proofs.Common.{◌≡◌, refl, sym, ap, ◌∙◌, subst, subst₂, ℕ, zero, suc, ◌+◌, ◌^◌, ◌<◌, ◌≤◌, ◌⊎◌, inl, inr, ⊎_elim, arith, Bool, true, false, cond, ◌==◌, IsTrue, List, [], ◌∷◌, ◌++◌, length, drop, Option, Some, None, slice_get, eqb-true, eq-eqb}
+use Rattle.std.proofs.Common.{◌≡◌, refl, sym, ap, ◌∙◌, subst, ℕ, zero, suc, ◌+◌, ◌^◌, ◌<◌, ◌⊎◌, inl, inr, ⊎_elim, arith, Bool, true, false, cond, ◌==◌, List, [], ◌∷◌, length, Some, slice_get, eqb-true, eq-eqb}
 use Rattle.std.proofs.lemmas.Bool.{cases_Bool, both_ways, eqb-false}
 use Rattle.std.proofs.lemmas.Option.{same_Some}
 use Rattle.tb_semantics.specs.Graph.{IsIn, IsApart}
 use Rattle.tb_semantics.proofs.Worlds.{Both, Only, World, Grows}
 use Rattle.tb_core.specs.Tree.{ProgramTree}
-use Rattle.tb_core.specs.FreeVariables.{is_in, is_assigned}
+use Rattle.tb_core.specs.FreeVariables.{is_assigned}
 use Rattle.tb_core.specs.Store as S
 use Rattle.tb_core.specs.Store.{Value, At}
 use Rattle.tb_core.specs.Reference as R
-use Rattle.tb_ir.specs.Tree as C
 use Rattle.tb_ir.specs.Machine as M
-use Rattle.tb_ir.specs.TreeMachine as T
 use Rattle.tb_assign.specs.Eliminate.{fresh, renamed, celled}
-use Rattle.tb_assign.proofs.Free.{AreSmall, in-celled, celled-in}
-use Rattle.tb_assign.proofs.Rel as Rel
+use Rattle.tb_assign.proofs.Free.{AreSmall}
 use Rattle.tb_assign.proofs.Rel.{Alike}
 use Rattle.tb_assign.proofs.Nodes.{BoundRel, no_bound, one_bound}
 
@@ -42,10 +39,10 @@ module _ (p : ProgramTree) where
       clash s =
           ⊎_elim
           (λ m. ⊎_elim
-              (λ n. let z : fresh x ≡ fresh a = sym m ∙ s ∙ n in let y : x ≡ a = omega arith in eqb-false x a e y)
-              (λ n. let z : fresh x ≡ a = sym m ∙ s ∙ n in absurd (omega arith)) (name_either a))
+          (λ n. let z : fresh x ≡ fresh a = sym m ∙ s ∙ n in let y : x ≡ a = omega arith in eqb-false x a e y)
+          (λ n. let z : fresh x ≡ a = sym m ∙ s ∙ n in absurd (omega arith)) (name_either a))
           (λ m. ⊎_elim (λ n. let z : x ≡ fresh a = sym m ∙ s ∙ n in absurd (omega arith))
-              (λ n. let z : x ≡ a = sym m ∙ s ∙ n in eqb-false x a e z) (name_either a))
+          (λ n. let z : x ≡ a = sym m ∙ s ∙ n in eqb-false x a e z) (name_either a))
           (name_either x)
 
   -- a variable that is bound, with its value on both sides
@@ -99,7 +96,7 @@ module _ (p : ProgramTree) where
   bound-at w _ _ _ r n h a (one_bound {x = x} {v = v} {u = u} {xs = xs} {vs = vs} {us = us} y ys) small la i =
       bound_first w x a v u xs vs us r n h (x == a) refl (small x (inl refl)) la y
       (λ e. bound-at w xs vs us r (suc n) h a ys (λ z j. small z (inr j)) la
-          (⊎_elim (λ q. absurd (eqb-false x a e q)) (λ j. j) i))
+      (⊎_elim (λ q. absurd (eqb-false x a e q)) (λ j. j) i))
 
   -- a variable that is not bound
   pub bound-not : (xs : List ℕ) (vs : List Value) (r : M.Env) (y : ℕ) → y < 2 ^ 24 → AreSmall xs → (IsIn y xs → ⊥) →
@@ -108,14 +105,14 @@ module _ (p : ProgramTree) where
   bound-not (x ∷ xs) [] r y lt small out = refl
   bound-not (x ∷ xs) (v ∷ vs) r y lt small out =
       ap (λ b. cond b (Some v) (M.lookup (M.bind_all (renamed g xs) vs r) y)) (other_name)
-          ∙ bound-not xs vs r y lt (λ z j. small z (inr j)) (λ j. out (inr j))
+      ∙ bound-not xs vs r y lt (λ z j. small z (inr j)) (λ j. out (inr j))
     where
       other_name : (name x == y) ≡ false
       other_name =
           ⊎_elim
           (λ s. absurd
-              (⊎_elim (λ m. let z : fresh x ≡ y = sym m ∙ eqb-true (name x) y s in absurd (omega arith))
-              (λ m. out (inl (sym m ∙ eqb-true (name x) y s))) (name_either x)))
+          (⊎_elim (λ m. let z : fresh x ≡ y = sym m ∙ eqb-true (name x) y s in absurd (omega arith))
+          (λ m. out (inl (sym m ∙ eqb-true (name x) y s))) (name_either x)))
           (λ n. n)
           (cases_Bool (name x == y))
 
@@ -126,7 +123,7 @@ module _ (p : ProgramTree) where
   all-not (x ∷ xs) [] r y out = refl
   all-not (x ∷ xs) (v ∷ vs) r y out =
       ap (λ b. cond b (Some v) (M.lookup (M.bind_all xs vs r) y))
-          (⊎_elim (λ s. absurd (out (inl (eqb-true x y s)))) (λ n. n) (cases_Bool (x == y)))
+      (⊎_elim (λ s. absurd (out (inl (eqb-true x y s)))) (λ n. n) (cases_Bool (x == y)))
       ∙ all-not xs vs r y (λ j. out (inr j))
 
   -- where the variables stand once all are made: the cells of those that are assigned, and the values of the others
@@ -178,14 +175,20 @@ module _ (p : ProgramTree) where
   cell-at w n _ _ _ r h a (a_cell {x = x} {t = t} {xs = xs} {vs = vs} {ts = ts} e j k) i y =
       subst (λ b. CellAt w (cond b (x ∷ celled g xs) (celled g xs)) (At t ∷ ts) r (x ∷ xs) n h a) (sym e)
       (cell_first w x a t ts r xs n h (x == a) refl j
-          (λ q. cell-at w (suc n) xs vs ts r h a k (⊎_elim (λ z. absurd (eqb-false x a q z)) (λ m. m) i) y))
+      (λ q. cell-at w (suc n) xs vs ts r h a k (⊎_elim (λ z. absurd (eqb-false x a q z)) (λ m. m) i) y))
   cell-at w n _ _ _ r h a (a_value {x = x} {xs = xs} {vs = vs} {ts = ts} e j k) i y =
       let other : (x == a) ≡ false = ⊎_elim (λ s. absurd (both_ways (g x) e (ap g (eqb-true x a s) ∙ y))) (λ m. m)
-          (cases_Bool (x == a)) in
+      (cases_Bool (x == a)) in
       let z = cell-at w (suc n) xs vs ts r h a k (⊎_elim (λ q. absurd (eqb-false x a other q)) (λ m. m) i) y in
       subst (λ b. CellAt w (cond b (x ∷ celled g xs) (celled g xs)) ts r (x ∷ xs) n h a) (sym e)
-      (record { cell = z.cell; variable = z.variable; here = z.here; there = ap
-          (λ b. cond b (Some n) (S.lookup (S.bind_from xs (suc n) h) a)) other ∙ z.there; linked = z.linked })
+      (record {
+        cell = z.cell;
+        variable = z.variable;
+        here = z.here;
+        there = ap
+            (λ b. cond b (Some n) (S.lookup (S.bind_from xs (suc n) h) a)) other ∙ z.there;
+        linked = z.linked;
+      })
 
   -- a value that is placed
   pub record ValueAt (w : World Value) (xs : List ℕ) (vs : List Value) (r : M.Env) (n : ℕ) (h : S.Env)
@@ -211,8 +214,8 @@ module _ (p : ProgramTree) where
   name_other x a lt e =
       ⊎_elim
       (λ s. absurd
-          (⊎_elim (λ m. let z : fresh x ≡ a = sym m ∙ eqb-true (name x) a s in absurd (omega arith))
-          (λ m. eqb-false x a e (sym m ∙ eqb-true (name x) a s)) (name_either x)))
+      (⊎_elim (λ m. let z : fresh x ≡ a = sym m ∙ eqb-true (name x) a s in absurd (omega arith))
+      (λ m. eqb-false x a e (sym m ∙ eqb-true (name x) a s)) (name_either x)))
       (λ n. n)
       (cases_Bool (name x == a))
 
@@ -235,24 +238,23 @@ module _ (p : ProgramTree) where
   value-at w _ _ _ _ r h a no_place i y la = absurd i
   value-at w n _ _ _ r h a (a_cell {x = x} {t = t} {v = v} {xs = xs} {vs = vs} {ts = ts} e j k) i y la =
       let other : (x == a) ≡ false = ⊎_elim (λ s. absurd (both_ways (g a) y (sym (ap g (eqb-true x a s)) ∙ e)))
-          (λ m. m) (cases_Bool (x == a)) in
+      (λ m. m) (cases_Bool (x == a)) in
       other_place w x a v xs vs r n h other (name_other x a la other)
-          (value-at w (suc n) xs vs ts r h a k (⊎_elim (λ q. absurd (eqb-false x a other q)) (λ m. m) i) y la)
+      (value-at w (suc n) xs vs ts r h a k (⊎_elim (λ q. absurd (eqb-false x a other q)) (λ m. m) i) y la)
   value-at w n _ _ _ r h a (a_value {x = x} {v = v} {xs = xs} {vs = vs} {ts = ts} e j k) i y la =
       value_first w x a v xs vs r n h (x == a) refl e la j
-          (λ q. value-at w (suc n) xs vs ts r h a k (⊎_elim (λ z. absurd (eqb-false x a q z)) (λ m. m) i) y la)
+      (λ q. value-at w (suc n) xs vs ts r h a k (⊎_elim (λ z. absurd (eqb-false x a q z)) (λ m. m) i) y la)
 
   -- the values of a list by their places in it
   pub nth-bound : (xs : List ℕ) (vs : List Value) (r : M.Env) (n : ℕ) (h : S.Env) (i x : ℕ) (v : Value) → IsApart xs →
       AreSmall xs → slice_get xs i ≡ Some x → slice_get vs i ≡ Some v →
       IsIn x xs × (M.lookup (M.bind_all (renamed g xs) vs r) (name x) ≡ Some v) ×
-          (S.lookup (S.bind_from xs n h) x ≡ Some (n + i))
+      (S.lookup (S.bind_from xs n h) x ≡ Some (n + i))
   nth-bound [] vs r n h i x v ap' small l m = cc
   nth-bound (y ∷ xs) [] r n h i x v ap' small l m = cc
   nth-bound (y ∷ xs) (u ∷ vs) r n h zero x v ap' small l m =
       let e : y ≡ x = same_Some y x l in
-      let f : (y == x) ≡ true = eq-eqb y x e in
-      (
+      let f : (y == x) ≡ true = eq-eqb y x e in (
         inl e,
         ap (λ b. cond b (Some u) (M.lookup (M.bind_all (renamed g xs) vs r) (name x)))
             (eq-eqb (name y) (name x) (ap name e)) ∙ m,
@@ -262,8 +264,7 @@ module _ (p : ProgramTree) where
   nth-bound (y ∷ xs) (u ∷ vs) r n h (suc i) x v ap' small l m =
       let k = nth-bound xs vs r (suc n) h i x v ap'.1 (λ z j. small z (inr j)) l m in
       let other : (y == x) ≡ false = ⊎_elim
-          (λ s. absurd (ap'.0 (subst (λ z. IsIn z xs) (sym (eqb-true y x s)) k.0))) (λ t. t) (cases_Bool (y == x)) in
-      (
+      (λ s. absurd (ap'.0 (subst (λ z. IsIn z xs) (sym (eqb-true y x s)) k.0))) (λ t. t) (cases_Bool (y == x)) in (
         inr k.0,
         ap (λ b. cond b (Some u) (M.lookup (M.bind_all (renamed g xs) vs r) (name x)))
             (names_apart y x (small y (inl refl)) (small x (inr k.0)) other) ∙ k.1,

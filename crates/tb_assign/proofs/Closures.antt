@@ -1,5 +1,5 @@
 -- A procedure is made with what it captures, as in the source.
-use Rattle.std.proofs.Common.{◌≡◌, sym, ◌∙◌, ℕ, List, []}
+use Rattle.std.proofs.Common.{sym, ◌∙◌, ℕ, List, []}
 use Rattle.tb_semantics.specs.Graph.{IsIn}
 use Rattle.tb_semantics.proofs.Worlds.{World}
 use Rattle.tb_core.specs.Tree.{ProgramTree}
@@ -32,5 +32,4 @@ module _ (p : ProgramTree) (inner : (l : ℕ) → Same (inner_cells p l) (inner_
       ItemRel p w (M.Clo l (M.gather (F.captured (cells_of p) l) r)) (S.Clo l (S.cut (inner_free p l) h))
   closure-made w l xs r h cv sub v =
       Rel.closure (covers-gather xs (inner_cells p l) (F.captured (cells_of p) l) r cv sub (captured_in l))
-          (gather-cut (is_assigned p) w (F.captured (cells_of p) l) (inner_free p l) r h v (captured_free l))
-
+      (gather-cut (is_assigned p) w (F.captured (cells_of p) l) (inner_free p l) r h v (captured_free l))

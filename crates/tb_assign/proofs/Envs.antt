@@ -1,10 +1,9 @@
 -- Environments that are cut and gathered.
-use Rattle.std.proofs.Common.{◌≡◌, refl, sym, ap, ◌∙◌, subst, ℕ, zero, suc, ◌+◌, inl, inr, ⊎_elim, arith, Bool, true, false, cond, ◌==◌, List, [], ◌∷◌, ◌++◌, Option, Some, None, eqb-true}
-use Rattle.std.proofs.lemmas.Bool.{cases_Bool, eqb-false}
+use Rattle.std.proofs.Common.{◌≡◌, refl, sym, ap, ◌∙◌, subst, ℕ, inl, inr, ⊎_elim, Bool, true, false, cond, ◌==◌, List, [], ◌∷◌, Option, Some, None, eqb-true}
+use Rattle.std.proofs.lemmas.Bool.{eqb-false}
 use Rattle.std.proofs.lemmas.Option.{same_Some}
 use Rattle.tb_semantics.specs.Graph.{IsIn}
 use Rattle.tb_semantics.proofs.Worlds.{World}
-use Rattle.tb_core.specs.FreeVariables.{is_in}
 use Rattle.tb_core.specs.Store as S
 use Rattle.tb_core.specs.Store.{Value}
 use Rattle.tb_core.proofs.Cuts.{cut-kept}
@@ -31,8 +30,10 @@ gather-finds (x ∷ xs) r y v i e =
 
 pub covers-gather : (xs ys zs : List ℕ) (r : M.Env) → Covers xs r → ((y : ℕ) → IsIn y ys → IsIn y xs) →
     ((y : ℕ) → IsIn y ys → IsIn y zs) → Covers ys (gather zs r)
-covers-gather xs ys zs r c h k = record { has = λ y i. let f = c.has y (h y i) in
-    (f.0, gather-finds zs r y f.0 (k y i) f.1) }
+covers-gather xs ys zs r c h k = record {
+  has = λ y i. let f = c.has y (h y i) in
+      (f.0, gather-finds zs r y f.0 (k y i) f.1);
+}
 
 -- where an environment that has a variable has it in the other
 looked_first : (g : ℕ → Bool) (w : World Value) (x y : ℕ) (v u : Value) (s : ℕ) (r : M.Env) (q : S.Env) (b : Bool) →
@@ -40,9 +41,12 @@ looked_first : (g : ℕ → Bool) (w : World Value) (x y : ℕ) (v u : Value) (s
     (M.lookup r y ≡ Some u → (s : ℕ) × (S.lookup q y ≡ Some s) × VarRel w (g y) u s) →
     (s : ℕ) × (S.lookup q y ≡ Some s) × VarRel w (g y) u s
 looked_first g w x y v u s r q true e f h k rest =
-    let z = eqb-true x y e in
-    (s, ap (S.lookup q) (sym z)
-        ∙ f, subst (λ a. VarRel w (g a) u s) z (subst (λ a. VarRel w (g x) a s) (same_Some v u k) h))
+    let z = eqb-true x y e in (
+      s,
+      ap (S.lookup q) (sym z)
+          ∙ f,
+      subst (λ a. VarRel w (g a) u s) z (subst (λ a. VarRel w (g x) a s) (same_Some v u k) h),
+    )
 looked_first g w x y v u s r q false e f h k rest = rest k
 
 pub looked-up : (g : ℕ → Bool) (w : World Value) (r : M.Env) (q : S.Env) (y : ℕ) (v : Value) → EnvRel g w r q →
@@ -73,7 +77,7 @@ pub gather-cut : (g : ℕ → Bool) (w : World Value) (xs ys : List ℕ) (r : M.
     ((y : ℕ) → IsIn y xs → IsIn y ys) → EnvRel g w (gather xs r) (S.cut ys q)
 gather-cut g w xs ys r q h k =
     gather-points g w xs r (S.cut ys q)
-        (λ y v i e. let f = looked-up g w r q y v h e in (f.0, cut-kept ys q y (tested-in ys y (k y i)) ∙ f.1, f.2))
+    (λ y v i e. let f = looked-up g w r q y v h e in (f.0, cut-kept ys q y (tested-in ys y (k y i)) ∙ f.1, f.2))
 
 -- gathering once more changes nothing
 gather_absent : (x y : ℕ) (o : Option Value) (rest : M.Env) (b : Bool) → (x == y) ≡ b → (b ≡ true → o ≡ None) →

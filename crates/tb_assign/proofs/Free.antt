@@ -1,5 +1,5 @@
 -- What an expression names is named by the expression with cells, and nothing else is.
-use Rattle.std.proofs.Common.{◌≡◌, refl, sym, ap, ◌∙◌, subst, ℕ, zero, suc, ◌+◌, ◌^◌, ◌<◌, ◌⊎◌, inl, inr, ⊎_elim, arith, Bool, true, false, cond, not, ◌==◌, List, [], ◌∷◌, ◌++◌, Option, Some, None, eqb-true, append-nil}
+use Rattle.std.proofs.Common.{◌≡◌, refl, sym, ap, ◌∙◌, subst, ℕ, suc, ◌^◌, ◌<◌, ◌⊎◌, inl, inr, ⊎_elim, arith, Bool, true, false, cond, not, ◌==◌, List, [], ◌∷◌, ◌++◌, Option, Some, None, append-nil}
 use Rattle.std.proofs.lemmas.Bool.{cases_Bool, both_ways}
 use Rattle.tb_prim.specs.declared.place.Place.{Place}
 use Rattle.tb_semantics.specs.Graph.{IsIn}
@@ -174,9 +174,9 @@ module _ (g : ℕ → Bool) where
           let out = absent-not (renamed g xs) y (without-not (renamed g xs) _ y i) in
           ⊎_elim
           (λ n. in-without xs ys y (h.to y n.0)
-              (absent xs y
-              (λ j. ⊎_elim (λ t. n.1 (in-celled xs y j t)) (λ t. out (in-renamed-plain xs y j t))
-              (cases_Bool (g y)))))
+          (absent xs y
+          (λ j. ⊎_elim (λ t. n.1 (in-celled xs y j t)) (λ t. out (in-renamed-plain xs y j t))
+          (cases_Bool (g y)))))
           (λ c. absurd (out (subst (λ z. IsIn z (renamed g xs)) (sym c.2) (in-renamed-fresh xs c.0 c.1))))
           (cells-to p s (celled g xs) e y (without-sub (renamed g xs) _ y i));
       from = λ y i.
@@ -185,7 +185,7 @@ module _ (g : ℕ → Bool) where
           let lt = small y k in
           in-without (renamed g xs) _ y (cells-from p s (celled g xs) e y (h.from y k) (λ j. out (celled-in xs y j).0))
           (absent (renamed g xs) y
-              (λ j. ⊎_elim out (λ f. let q = f.1 in absurd (omega arith)) (renamed-either xs y j)));
+          (λ j. ⊎_elim out (λ f. let q = f.1 in absurd (omega arith)) (renamed-either xs y j)));
     }
 
   read-free : (J : ℕ → List ℕ) (p : Place) (s x : ℕ) (b : Bool) →
@@ -257,17 +257,17 @@ module _ (g : ℕ → Bool) where
       Same (F.lambda_free J [] (eliminate_lambda g n m)) (lambda_free I m)
   lambda_same I J inner small n m h =
       let s = same-bound J m.place _ (parameters m) (free I m.body) (eliminate g m.body)
-          (same-free I J inner small m.body h) (small-free I small m.body h) in
+      (same-free I J inner small m.body h) (small-free I small m.body h) in
       subst (λ zs. Same (without zs (F.free J (eliminate_lambda g n m).body)) (lambda_free I m))
-          (sym (append-nil (F.parameters (eliminate_lambda g n m)) ∙ renamed-parameters n m)) s
+      (sym (append-nil (F.parameters (eliminate_lambda g n m)) ∙ renamed-parameters n m)) s
 
   inner_here : (ms : List LambdaTree) (m : LambdaTree) (n l : ℕ) (b : Bool) → Each NamesSmall m.body →
       ((k : ℕ) → AreSmall (lambdas_free ms (suc n) k)) →
       ((k : ℕ) → Same (F.lambdas_free [] (eliminate_lambdas g (suc n) ms) (suc n) k) (lambdas_free ms (suc n) k)) →
       Same (cond b
-          (F.lambda_free (F.lambdas_free [] (eliminate_lambdas g (suc n) ms) (suc n)) [] (eliminate_lambda g n m))
-          (F.lambdas_free [] (eliminate_lambdas g (suc n) ms) (suc n) l))
-          (cond b (lambda_free (lambdas_free ms (suc n)) m) (lambdas_free ms (suc n) l))
+      (F.lambda_free (F.lambdas_free [] (eliminate_lambdas g (suc n) ms) (suc n)) [] (eliminate_lambda g n m))
+      (F.lambdas_free [] (eliminate_lambdas g (suc n) ms) (suc n) l))
+      (cond b (lambda_free (lambdas_free ms (suc n)) m) (lambdas_free ms (suc n) l))
   inner_here ms m n l true h small rest = lambda_same (lambdas_free ms (suc n))
       (F.lambdas_free [] (eliminate_lambdas g (suc n) ms) (suc n)) rest small n m h
   inner_here ms m n l false h small rest = rest l

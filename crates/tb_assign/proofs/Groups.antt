@@ -1,13 +1,12 @@
 -- Procedures that name one another are made as in the source, where a variable stands for each of them.
-use Rattle.std.proofs.Common.{◌≡◌, refl, sym, ap, ◌∙◌, subst, subst₂, ℕ, zero, suc, ◌+◌, ◌<◌, ◌≤◌, inl, inr, ⊎_elim, arith, Bool, true, false, cond, ◌==◌, IsTrue, List, [], ◌∷◌, ◌++◌, length, Option, Some, None, slice_get, append_assoc, append-nil, length-append, eqb-true, eq-eqb}
+use Rattle.std.proofs.Common.{◌≡◌, refl, sym, ap, ◌∙◌, subst, subst₂, ℕ, zero, suc, ◌+◌, ◌<◌, inl, inr, ⊎_elim, arith, Bool, true, false, cond, ◌==◌, List, [], ◌∷◌, ◌++◌, length, Some, slice_get, append_assoc, append-nil, length-append, eqb-true, eq-eqb}
 use Rattle.std.proofs.lemmas.Bool.{cases_Bool, eqb-false, both_ways}
 use Rattle.std.proofs.lemmas.Option.{same_Some}
 use Rattle.tb_prim.specs.declared.event.Event.{Event}
 use Rattle.tb_semantics.specs.Graph.{IsIn, IsApart}
-use Rattle.tb_semantics.proofs.Worlds.{Entry, Both, Only, World, Grows, Stores, stores_stay, both_made, source_made, grows_one, grows_refl}
-use Rattle.tb_core.specs.Tree.{Tree, Letrec, ProgramTree}
-use Rattle.tb_core.specs.FreeVariables.{is_in, without, of_lambdas, free, free_form, inner_free, is_assigned}
-use Rattle.tb_core.specs.OperandOrder.{order_of}
+use Rattle.tb_semantics.proofs.Worlds.{Both, Only, World, Grows, Stores, stores_stay, both_made, source_made}
+use Rattle.tb_core.specs.Tree.{Tree, ProgramTree}
+use Rattle.tb_core.specs.FreeVariables.{is_in, without, of_lambdas, free, inner_free, is_assigned}
 use Rattle.tb_core.specs.Rules.{Every, Each, is_mark}
 use Rattle.tb_core.specs.Store as S
 use Rattle.tb_core.specs.Store.{Value, At}
@@ -21,7 +20,7 @@ use Rattle.tb_ir.specs.FreeVariables as F
 use Rattle.tb_ir.specs.Machine as M
 use Rattle.tb_ir.specs.TreeMachine as T
 use Rattle.tb_assign.specs.Eliminate.{eliminate, cells_of}
-use Rattle.tb_assign.proofs.Free.{Same, AreSmall, absent, absent-not, without-not}
+use Rattle.tb_assign.proofs.Free.{Same, without-not}
 use Rattle.tb_assign.proofs.Rel as Rel
 use Rattle.tb_assign.proofs.Rel.{Alike, EnvRel, Covers, FramesRel, ItemRel, Good, Ready, BindsWell, free_cells, inner_cells, source, target}
 use Rattle.tb_assign.proofs.Grow as Grow
@@ -51,7 +50,7 @@ only_in (suc k) s t (suc i) v lt =
     let a : suc s + i ≡ s + suc i = omega arith in
     let b : suc t + i ≡ t + suc i = omega arith in
     subst₂ (λ n m. IsIn (Only n (At m)) (onlys k (suc s) (suc t) (Only s (At t) ∷ v))) a b
-        (only_in k (suc s) (suc t) i (Only s (At t) ∷ v) (omega arith))
+    (only_in k (suc s) (suc t) i (Only s (At t) ∷ v) (omega arith))
 
 pub pair_in : (k t s i : ℕ) (v : World Value) → i < k → IsIn (Both (t + i) (s + i)) (pairs_more k t s v)
 pair_in zero t s i v lt = absurd (omega arith)
@@ -62,7 +61,7 @@ pair_in (suc k) t s (suc i) v lt =
     let a : suc s + i ≡ s + suc i = omega arith in
     let b : suc t + i ≡ t + suc i = omega arith in
     subst₂ (λ n m. IsIn (Both n m) (pairs_more k (suc t) (suc s) (Both t s ∷ v))) b a
-        (pair_in k (suc t) (suc s) i (Both t s ∷ v) (omega arith))
+    (pair_in k (suc t) (suc s) i (Both t s ∷ v) (omega arith))
 
 last_long : {X : Type 0} (xs : List X) (x : X) → length (xs ++ x ∷ []) ≡ suc (length xs)
 last_long xs x = length-append xs (x ∷ []) ∙ (let n : length xs + 1 ≡ suc (length xs) = omega arith in n)
@@ -75,17 +74,17 @@ module _ (p : ProgramTree) (W : World Value) where
   located_made [] v st ss s t m e at h = subst (Stores (items p) W v st) (sym (append-nil ss)) h
   located_made (y ∷ ys) v st ss s t m e at h =
       let here : IsIn (Both t m) W = subst₂ (λ a b. IsIn (Both a b) W) (let a : t + 0 ≡ t = omega arith in a)
-          (let a : m + 0 ≡ m = omega arith in a) (at 0 (omega arith)) in
+      (let a : m + 0 ≡ m = omega arith in a) (at 0 (omega arith)) in
       let one = source_made M.Item S.Item Value (items p) W v st ss (S.Var (At m)) (At t) h
-          (Rel.holds (Like.at here)) in
+      (Rel.holds (Like.at here)) in
       let one' : Stores (items p) W (Only s (At t) ∷ v) st (ss ++ S.Var (At m) ∷ []) = subst
-          (λ n. Stores (items p) W (Only n (At t) ∷ v) st (ss ++ S.Var (At m) ∷ [])) e one in
+      (λ n. Stores (items p) W (Only n (At t) ∷ v) st (ss ++ S.Var (At m) ∷ [])) e one in
       subst (Stores (items p) W (onlys (length ys) (suc s) (suc t) (Only s (At t) ∷ v)) st)
-          (append_assoc ss (S.Var (At m) ∷ []) (R.located ys (suc m)))
+      (append_assoc ss (S.Var (At m) ∷ []) (R.located ys (suc m)))
       (located_made ys (Only s (At t) ∷ v) st (ss ++ S.Var (At m) ∷ []) (suc s) (suc t) (suc m)
-          (last_long ss (S.Var (At m)) ∙ ap suc e)
+      (last_long ss (S.Var (At m)) ∙ ap suc e)
       (λ i lt. subst₂ (λ a b. IsIn (Both a b) W) (let a : t + suc i ≡ suc t + i = omega arith in a)
-          (let a : m + suc i ≡ suc m + i = omega arith in a) (at (suc i) (omega arith))) one')
+      (let a : m + suc i ≡ suc m + i = omega arith in a) (at (suc i) (omega arith))) one')
 
   -- the procedures are made
   closures_made : (ls : List ℕ) (v : World Value) (st : List M.Item) (ss : List S.Item) (t s : ℕ) (z : M.Env)
@@ -94,7 +93,7 @@ module _ (p : ProgramTree) (W : World Value) where
       ItemRel p W (M.Clo l (M.gather (F.captured (cells_of p) l) z)) (S.Clo l (S.cut (inner_free p l) q))) →
       Stores (items p) W v st ss →
       Stores (items p) W (pairs_more (length ls) t s v) (st ++ M.closures (F.captured (cells_of p)) ls z)
-          (ss ++ R.closures (source p) ls q)
+      (ss ++ R.closures (source p) ls q)
   closures_made [] v st ss t s z q et es' each h = subst₂ (Stores (items p) W v) (sym (append-nil st))
       (sym (append-nil ss)) h
   closures_made (l ∷ ls) v st ss t s z q et es' each h =
@@ -102,12 +101,12 @@ module _ (p : ProgramTree) (W : World Value) where
       let j : S.Item = S.Clo l (S.cut (inner_free p l) q) in
       let one = both_made M.Item S.Item Value (items p) W v st ss i j h (each l (inl refl)) in
       let one' : Stores (items p) W (Both t s ∷ v) (st ++ i ∷ []) (ss ++ j ∷ []) = subst₂
-          (λ a b. Stores (items p) W (Both a b ∷ v) (st ++ i ∷ []) (ss ++ j ∷ [])) et es' one in
+      (λ a b. Stores (items p) W (Both a b ∷ v) (st ++ i ∷ []) (ss ++ j ∷ [])) et es' one in
       subst₂ (Stores (items p) W (pairs_more (length ls) (suc t) (suc s) (Both t s ∷ v)))
-          (append_assoc st (i ∷ []) (M.closures (F.captured (cells_of p)) ls z))
-          (append_assoc ss (j ∷ []) (R.closures (source p) ls q))
+      (append_assoc st (i ∷ []) (M.closures (F.captured (cells_of p)) ls z))
+      (append_assoc ss (j ∷ []) (R.closures (source p) ls q))
       (closures_made ls (Both t s ∷ v) (st ++ i ∷ []) (ss ++ j ∷ []) (suc t) (suc s) z q
-          (last_long st i ∙ ap suc et) (last_long ss j ∙ ap suc es') (λ m n. each m (inr n)) one')
+      (last_long st i ∙ ap suc et) (last_long ss j ∙ ap suc es') (λ m n. each m (inr n)) one')
 
 -- where the variables of a list are bound
 nth_first : (y x n : ℕ) (i : ℕ) (xs : List ℕ) (h : S.Env) (b : Bool) → (y == x) ≡ b → b ≡ false →
@@ -128,8 +127,8 @@ nth_bound (y ∷ xs) n h zero x a e = ap (λ b. cond b (Some n) (S.lookup (S.bin
     (eq-eqb y x (same_Some y x e)) ∙ ap Some (let t : n ≡ n + 0 = omega arith in t)
 nth_bound (y ∷ xs) n h (suc i) x a e =
     let other : (y == x) ≡ false = ⊎_elim
-        (λ s. absurd (a.0 (subst (λ z. IsIn z xs) (sym (eqb-true y x s)) (nth_in xs i x e).0))) (λ t. t)
-        (cases_Bool (y == x)) in
+    (λ s. absurd (a.0 (subst (λ z. IsIn z xs) (sym (eqb-true y x s)) (nth_in xs i x e).0))) (λ t. t)
+    (cases_Bool (y == x)) in
     nth_first y x n i xs h (y == x) refl other (nth_bound xs (suc n) h i x a.1 e)
 
 located_finds : (xs : List ℕ) (t : ℕ) (z : M.Env) (y : ℕ) → IsIn y xs →
@@ -138,7 +137,7 @@ located_finds [] t z y i = absurd i
 located_finds (x ∷ xs) t z y i = ⊎_elim
     (λ s. (At t, ap (λ b. cond b (Some (At t)) (M.lookup (M.bind_located xs (suc t) z) y)) s))
     (λ n. let k = located_finds xs (suc t) z y (⊎_elim (λ e. absurd (eqb-false x y n e)) (λ j. j) i) in
-        (k.0, ap (λ b. cond b (Some (At t)) (M.lookup (M.bind_located xs (suc t) z) y)) n ∙ k.1))
+    (k.0, ap (λ b. cond b (Some (At t)) (M.lookup (M.bind_located xs (suc t) z) y)) n ∙ k.1))
     (cases_Bool (x == y))
 
 located_not : (xs : List ℕ) (t : ℕ) (z : M.Env) (y : ℕ) → (IsIn y xs → ⊥) →
@@ -146,7 +145,7 @@ located_not : (xs : List ℕ) (t : ℕ) (z : M.Env) (y : ℕ) → (IsIn y xs →
 located_not [] t z y out = refl
 located_not (x ∷ xs) t z y out =
     ap (λ b. cond b (Some (At t)) (M.lookup (M.bind_located xs (suc t) z) y))
-        (⊎_elim (λ s. absurd (out (inl (eqb-true x y s)))) (λ n. n) (cases_Bool (x == y)))
+    (⊎_elim (λ s. absurd (out (inl (eqb-true x y s)))) (λ n. n) (cases_Bool (x == y)))
     ∙ located_not xs (suc t) z y (λ j. out (inr j))
 
 -- the environment of all of them
@@ -158,14 +157,16 @@ located_env g W [] t z q n no_set at h = h
 located_env g W (y ∷ ys) t z q n no_set at h =
     let k = at 0 y refl in
     Rel.bind k.0
-        (Rel.plain no_set.0 (subst (λ m. IsIn (Only (n + 0) (At m)) W) (let a : t + 0 ≡ t = omega arith in a) k.1))
-    (located_env g W ys (suc t) z q (suc n) no_set.1 (λ i x e. let m = at (suc i) x e in
-    (m.0 ∙ ap Some (let a : n + suc i ≡ suc n + i = omega arith in a), subst₂ (λ a b. IsIn (Only a (At b)) W)
-        (let a : n + suc i ≡ suc n + i = omega arith in a) (let b : t + suc i ≡ suc t + i = omega arith in b) m.1)) h)
+    (Rel.plain no_set.0 (subst (λ m. IsIn (Only (n + 0) (At m)) W) (let a : t + 0 ≡ t = omega arith in a) k.1))
+    (located_env g W ys (suc t) z q (suc n) no_set.1 (λ i x e. let m = at (suc i) x e in (
+      m.0 ∙ ap Some (let a : n + suc i ≡ suc n + i = omega arith in a),
+      subst₂ (λ a b. IsIn (Only a (At b)) W)
+          (let a : n + suc i ≡ suc n + i = omega arith in a) (let b : t + suc i ≡ suc t + i = omega arith in b) m.1,
+    )) h)
 
 module _ (p : ProgramTree) (input : List ℕ)
     (same : (e : Tree) → Each (Good p) e → Same (free_cells p e) (free (inner_free p) e))
-        (inner : (l : ℕ) → Same (inner_cells p l) (inner_free p l)) where
+    (inner : (l : ℕ) → Same (inner_cells p l) (inner_free p l)) where
   abbrev g : ℕ → Bool
   g = is_assigned p
 
@@ -182,7 +183,7 @@ module _ (p : ProgramTree) (input : List ℕ)
   module _ (w : World Value) (c : T.TreeConfig) (d : R.Config) (k : Ground p w c d)
       (f : FramesRel p w c.frames d.frames) (xs ls : List ℕ) (e : Tree) (r : M.Env) (h : S.Env) (es : List Event)
       (good : Each (Good p) e) (no_mark : is_mark e ≡ false) (well : BindsWell p xs e)
-          (no_set : Every (λ x. g x ≡ false) xs) (long : length xs ≡ length ls)
+      (no_set : Every (λ x. g x ≡ false) xs) (long : length xs ≡ length ls)
       (cv : Covers (F.free_form (inner_cells p) (C.Letrec xs ls (eliminate g e))) r) (env : EnvRel g w r h) where
     abbrev T0 : ℕ
     T0 = length c.store
@@ -218,8 +219,8 @@ module _ (p : ProgramTree) (input : List ℕ)
     names_to y i =
         in-without xs _ y
         (⊎_elim (λ j. in-left y (of_lambdas (inner_free p) ls) _ (lambdas_to ls y j))
-            (λ j. in-right y (of_lambdas (inner_free p) ls) _ ((same e good).to y j))
-            (in-either y (of_lambdas (inner_cells p) ls) _ (without-sub xs names y i)))
+        (λ j. in-right y (of_lambdas (inner_free p) ls) _ ((same e good).to y j))
+        (in-either y (of_lambdas (inner_cells p) ls) _ (without-sub xs names y i)))
         (without-not xs names y i)
 
     grown : Grows w W
@@ -227,8 +228,7 @@ module _ (p : ProgramTree) (input : List ℕ)
 
     base_env : EnvRel g W z qs
     base_env = gather-points g W (without xs names) r qs (λ y v i l.
-        let u = looked-up g w r h y v env l in
-        (
+        let u = looked-up g w r h y v env l in (
           u.0,
           bound-other xs n0 (S.cut source_names h) y (without-not xs names y i)
               ∙ cut-kept source_names h y (tested-in source_names y (names_to y i)) ∙ u.1,
@@ -237,8 +237,11 @@ module _ (p : ProgramTree) (input : List ℕ)
 
     whole_env : EnvRel g W zq qs
     whole_env = located_env g W xs T0 z qs n0 no_set
-        (λ i x l. (nth_bound xs n0 (S.cut source_names h) i x well.apart l, pairs_grow N T0 (n0 + N) V _
-        (only_in N n0 T0 i w (nth_in xs i x l).1))) base_env
+        (λ i x l. (
+          nth_bound xs n0 (S.cut source_names h) i x well.apart l,
+          pairs_grow N T0 (n0 + N) V _
+              (only_in N n0 T0 i w (nth_in xs i x l).1),
+        )) base_env
 
     whole_covers : Covers names zq
     whole_covers = record {
@@ -246,9 +249,11 @@ module _ (p : ProgramTree) (input : List ℕ)
           ⊎_elim
           (λ t. located_finds xs T0 z y (in-tested xs y t))
           (λ n. let j = in-without xs names y i n in
-          let v = cv.has y j in
-          (v.0, located_not xs T0 z y (λ m. both_ways (is_in xs y) n (tested-in xs y m))
-              ∙ gather-finds (without xs names) r y v.0 j v.1))
+          let v = cv.has y j in (
+            v.0,
+            located_not xs T0 z y (λ m. both_ways (is_in xs y) n (tested-in xs y m))
+                ∙ gather-finds (without xs names) r y v.0 j v.1,
+          ))
           (cases_Bool (is_in xs y));
     }
 
@@ -261,16 +266,16 @@ module _ (p : ProgramTree) (input : List ℕ)
         (d.store ++ (R.located xs (n0 + N) ++ R.closures (source p) ls qs))
     stores_made =
         let first = located_made p W xs w c.store d.store n0 T0 (n0 + N) refl (λ i lt. pair_in N T0 (n0 + N) i V lt)
-            (stores_stay M.Item S.Item Value (items p) w W w c.store d.store grown k.stores) in
+        (stores_stay M.Item S.Item Value (items p) w W w c.store d.store grown k.stores) in
         let at : length (d.store ++ R.located xs (n0 + N)) ≡ n0 + N = length-append d.store (R.located xs (n0 + N))
-            ∙ ap (λ m. n0 + m) (located_long xs (n0 + N)) in
+        ∙ ap (λ m. n0 + m) (located_long xs (n0 + N)) in
         let both' = closures_made p W ls V c.store (d.store ++ R.located xs (n0 + N)) T0
-            (n0 + N) zq qs refl at each_closure first in
+        (n0 + N) zq qs refl at each_closure first in
         subst (Stores (items p) W W (c.store ++ M.closures (F.captured (cells_of p)) ls zq))
-            (append_assoc d.store (R.located xs (n0 + N)) (R.closures (source p) ls qs))
+        (append_assoc d.store (R.located xs (n0 + N)) (R.closures (source p) ls qs))
         (subst (λ m. Stores (items p) W (pairs_more m T0 (n0 + N) V)
-            (c.store ++ M.closures (F.captured (cells_of p)) ls zq)
-            ((d.store ++ R.located xs (n0 + N)) ++ R.closures (source p) ls qs)) (sym long) both')
+        (c.store ++ M.closures (F.captured (cells_of p)) ls zq)
+        ((d.store ++ R.located xs (n0 + N)) ++ R.closures (source p) ls qs)) (sym long) both')
       where
         located_long : (ys : List ℕ) (m : ℕ) → length (R.located ys m) ≡ length ys
         located_long [] m = refl
@@ -280,11 +285,11 @@ module _ (p : ProgramTree) (input : List ℕ)
         (M.make_closures (F.captured (cells_of p)) c xs ls (eliminate g e) z es)
     group_goes =
         goes-with p input w c d k W (M.Bound (eliminate g e) zq)
-            (R.Bound e qs) c.frames d.frames _ _ es grown stores_made
+        (R.Bound e qs) c.frames d.frames _ _ es grown stores_made
         (Rel.bound good no_mark
-            (record { has = λ y i. whole_covers.has y (in-right y (of_lambdas (inner_cells p) ls) _ i) }) whole_env) f
+        (record { has = λ y i. whole_covers.has y (in-right y (of_lambdas (inner_cells p) ls) _ i) }) whole_env) f
 
   pub all-groups : Groups p input
   all-groups = record {
-    makes = λ w c d k f xs ls e r h es good no_mark well no_set long cv env. group_goes w c d k f xs ls e r h es good no_mark well no_set long cv env
+    makes = λ w c d k f xs ls e r h es good no_mark well no_set long cv env. group_goes w c d k f xs ls e r h es good no_mark well no_set long cv env;
   }

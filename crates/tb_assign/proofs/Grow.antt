@@ -1,14 +1,12 @@
 -- What is related stays so when the world grows.
-use Rattle.std.proofs.Common.{◌≡◌, ℕ, Bool, true, false, IsTrue, List, [], ◌∷◌, Option, Some}
-use Rattle.tb_semantics.specs.Graph.{IsIn}
-use Rattle.tb_semantics.proofs.Worlds.{Entry, Both, Only, World, Grows, Items}
+use Rattle.std.proofs.Common.{ℕ, Bool, true, false, IsTrue, List}
+use Rattle.tb_semantics.proofs.Worlds.{Both, World, Grows, Items}
 use Rattle.tb_core.specs.Tree.{Form, ProgramTree}
 use Rattle.tb_core.specs.Store as S
 use Rattle.tb_core.specs.Store.{Value, Object}
 use Rattle.tb_core.specs.Reference as R
 use Rattle.tb_core.specs.Partners as Like
 use Rattle.tb_core.specs.Partners.{AlikeValues, AlikeLists, AlikeObjects}
-use Rattle.tb_ir.specs.Tree as C
 use Rattle.tb_ir.specs.Machine as M
 use Rattle.tb_ir.specs.TreeMachine as T
 use Rattle.tb_assign.proofs.Rel as Rel

@@ -19,3 +19,7 @@ pub mod Groups
 pub mod Whole
 pub mod Scoped
 pub mod InnerSmall
+pub mod Sites
+pub mod ReadyFrom
+pub mod Named
+pub mod AllNamed

@@ -1,13 +1,13 @@
 -- The operands of a node with cells: their numbers, their trees and what they name are those of the source.
-use Rattle.std.proofs.Common.{◌≡◌, refl, sym, ap, ◌∙◌, subst, ℕ, zero, suc, ◌+◌, ◌<◌, ◌≤◌, inl, inr, ⊎_elim, arith, Bool, true, false, cond, ◌==◌, IsTrue, List, [], ◌∷◌, ◌++◌, length, drop, Option, Some, None, slice_get, eqb-true}
+use Rattle.std.proofs.Common.{◌≡◌, refl, sym, ap, ◌∙◌, subst, ℕ, zero, suc, ◌+◌, ◌<◌, ◌≤◌, ⊎_elim, arith, Bool, true, false, cond, ◌==◌, List, [], ◌∷◌, ◌++◌, length, drop, Option, Some, None, slice_get, eqb-true}
 use Rattle.std.proofs.lemmas.Bool.{eqb-false}
 use Rattle.std.proofs.lemmas.Option.{same_Some}
 use Rattle.tb_prim.specs.declared.place.Place.{Place}
 use Rattle.tb_semantics.specs.Graph.{IsIn}
 use Rattle.tb_semantics.proofs.Worlds.{World}
-use Rattle.tb_core.specs.Tree.{Tree, Node, Form, Let, Call, PrimUse, Apply, Trees, none, more, count, tree_at, ProgramTree}
-use Rattle.tb_core.specs.FreeVariables.{free, free_form, free_all, inner_free, is_assigned}
-use Rattle.tb_core.specs.OperandOrder.{Line, HasLine, has_order, operands, line_at, line_of, order_of}
+use Rattle.tb_core.specs.Tree.{Tree, Form, Let, Call, PrimUse, Apply, Trees, none, more, count, tree_at, ProgramTree}
+use Rattle.tb_core.specs.FreeVariables.{free, inner_free, is_assigned}
+use Rattle.tb_core.specs.OperandOrder.{Line, HasLine, has_order, operands, line_at, order_of}
 use Rattle.tb_core.specs.Rules.{Each, EachForm, EachAll, NodeKeeps, NoMark, MarksAssigned, is_mark}
 use Rattle.tb_core.specs.Reference as R
 use Rattle.tb_core.specs.Store.{Value}
@@ -159,9 +159,9 @@ module _ (p : ProgramTree) (w : World Value) (f : Form) where
       let n = value-found i ns vs us h (all i (omega arith)) le in
       let rest = arranged-alike (suc i) k ns vs us h (λ j lt. all j (omega arith)) le in
       subst (λ o. NumberedRel p w f i (R.prepend o (R.arranged (suc i) k ns vs))
-          (R.prepend (R.value_for i ns us) (R.arranged (suc i) k ns us))) (sym n.here)
+      (R.prepend (R.value_for i ns us) (R.arranged (suc i) k ns us))) (sym n.here)
       (subst (λ o. NumberedRel p w f i (n.value ∷ R.arranged (suc i) k ns vs)
-          (R.prepend o (R.arranged (suc i) k ns us))) (sym n.there) (next_one n.alike rest))
+      (R.prepend o (R.arranged (suc i) k ns us))) (sym n.there) (next_one n.alike rest))
 
   -- where no value may be the mark
   pub all-alike : ((i : ℕ) → may_mark p f i ≡ false) → (i : ℕ) (vs us : List Value) → NumberedRel p w f i vs us →
@@ -210,8 +210,8 @@ module _ (p : ProgramTree)
   numbers-to es (n ∷ ns) y h i =
       ⊎_elim
       (λ j. in-left y (R.free_of_tree (Rel.source p) (tree_at es n)) _
-          (numbers_tree (tree_at es n) y (λ e q. each-tree (Good p) es n e h q)
-          (subst (λ o. IsIn y (T.free_of_tree (Rel.target p) o)) (same-tree (is_assigned p) es n) j)))
+      (numbers_tree (tree_at es n) y (λ e q. each-tree (Good p) es n e h q)
+      (subst (λ o. IsIn y (T.free_of_tree (Rel.target p) o)) (same-tree (is_assigned p) es n) j)))
       (λ j. in-right y (R.free_of_tree (Rel.source p) (tree_at es n)) _ (numbers-to es ns y h j))
       (in-either y (T.free_of_tree (Rel.target p) (C.tree_at (eliminate_all (is_assigned p) es) n)) _ i)
 

@@ -1,9 +1,8 @@
 -- What a program with cells reaches stands for what its source reaches.
-use Rattle.std.proofs.Common.{◌≡◌, refl, sym, ap, ◌∙◌, subst, ℕ, zero, suc, ◌+◌, ◌<◌, ◌≤◌, inl, inr, ⊎_elim, arith, Bool, true, false, cond, ◌==◌, IsTrue, List, [], ◌∷◌, ◌++◌, length, Option, Some, None, slice_get, eqb-true, append_assoc}
-use Rattle.std.proofs.lemmas.Bool.{cases_Bool}
+use Rattle.std.proofs.Common.{◌≡◌, refl, sym, ap, ◌∙◌, subst, ℕ, inl, inr, ⊎_elim, Bool, true, false, cond, ◌==◌, IsTrue, List, [], ◌∷◌, ◌++◌, length, Some, slice_get, append_assoc}
 use Rattle.std.proofs.lemmas.Option.{same_Some}
-use Rattle.tb_semantics.specs.Graph.{IsIn, Graph, Reaches, root, child, below}
-use Rattle.tb_semantics.proofs.Worlds.{Both, Only, World, Stores}
+use Rattle.tb_semantics.specs.Graph.{IsIn, Graph, Reaches, child}
+use Rattle.tb_semantics.proofs.Worlds.{Both, Only, World}
 use Rattle.tb_semantics.proofs.Reachable.{HasMatch}
 use Rattle.tb_core.specs.Tree.{ProgramTree}
 use Rattle.tb_core.specs.FreeVariables.{is_assigned}
@@ -33,7 +32,7 @@ module _ (w : World Value) (g : Graph) where
   pub match-append : {ls ms ks js : List ℕ} → Matches w g ls ks → Matches w g ms js → Matches w g (ls ++ ms) (ks ++ js)
   match-append {ls} {ms} {ks} {js} h k = record {
     by = λ all l i. ⊎_elim (h.by (λ a j. all a (in-left a ks js j)) l) (k.by (λ a j. all a (in-right a ks js j)) l)
-        (in-either l ls ms i)
+        (in-either l ls ms i);
   }
 
   pub match-more : {ls ks js : List ℕ} → ((k : ℕ) → IsIn k ks → IsIn k js) → Matches w g ls ks → Matches w g ls js
@@ -43,8 +42,10 @@ module _ (w : World Value) (g : Graph) where
   match-both {ls} {ms} h k = record { by = λ all l i. ⊎_elim (h.by all l) (k.by all l) (in-either l ls ms i) }
 
   pub match-one : (t s : ℕ) → IsIn (Both t s) w → Matches w g (t ∷ []) (s ∷ [])
-  match-one t s i = record { by = λ all l. ⊎_elim (λ e. (s, all s (inl refl), subst (λ a. IsIn (Both a s) w) e i))
-      (λ j. absurd j) }
+  match-one t s i = record {
+    by = λ all l. ⊎_elim (λ e. (s, all s (inl refl), subst (λ a. IsIn (Both a s) w) e i))
+        (λ j. absurd j);
+  }
 
   pub match-value : (b : Bool) (v u : Value) → Alike w b v u → Matches w g (value_locations v) (value_locations u)
   match-value b _ _ (Like.at {a = t} {b = s} i) = match-one t s i
@@ -107,8 +108,8 @@ module _ (p : ProgramTree) (w : World Value) (ss : List S.Item) (roots : List �
     match-env f _ q (Rel.bind {x = x} {v = v} {s = s} {r = r} e h hs) =
         match-both w sources
         (match-more w sources
-            (λ k. ⊎_elim (λ i. subst (λ a. IsIn a (env_locations q)) i (lookup-location q x s e)) (λ i. absurd i))
-            (match-var (f x) v s h))
+        (λ k. ⊎_elim (λ i. subst (λ a. IsIn a (env_locations q)) i (lookup-location q x s e)) (λ i. absurd i))
+        (match-var (f x) v s h))
         (match-env f r q hs)
 
     pub match-item : (i : M.Item) (j : S.Item) → ItemRel p w i j →
@@ -137,7 +138,7 @@ module _ (p : ProgramTree) (w : World Value) (ss : List S.Item) (roots : List �
     match-work _ _ (Rel.rest n k c e) = match-env _ _ _ e
     match-work _ _ (Rel.args {vs = vs} {us = us} {r = r} {h = q} o n m h lt c e) =
         subst (λ ks. Matches w sources ks (values_locations us ++ env_locations q))
-            (sym (values-append vs (env_values r)))
+        (sym (values-append vs (env_values r)))
         (match-append w sources (match_args _ _ vs us h) (match-env _ r q e))
 
     pub match-frames : (fs : List (M.Frame T.TreeWork)) (hs : List R.Frame) → FramesRel p w fs hs →

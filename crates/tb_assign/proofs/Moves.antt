@@ -1,43 +1,35 @@
 -- One step of both machines, or steps of the program with cells alone where a cell is read or set.
-use Rattle.std.proofs.Common.{◌≡◌, refl, sym, ap, ◌∙◌, subst, subst₂, ℕ, zero, suc, ◌+◌, ◌^◌, ◌<◌, ◌≤◌, inl, inr, ⊎_elim, arith, Bool, true, false, cond, ◌==◌, IsTrue, List, [], ◌∷◌, ◌++◌, length, drop, Option, Some, None, slice_get, slice_set, zero-add, append_assoc}
+use Rattle.std.proofs.Common.{◌≡◌, refl, sym, ap, ◌∙◌, subst, subst₂, ℕ, ◌<◌, inl, ⊎_elim, arith, Bool, true, false, List, [], ◌∷◌, ◌++◌, length, Some, slice_get, slice_set, zero-add, append_assoc}
 use Rattle.std.proofs.lemmas.Option.{same_Some}
 use Rattle.std.proofs.lemmas.Bool.{both_ways}
 use Rattle.tb_prim.specs.declared.place.Place.{Place}
 use Rattle.tb_prim.specs.declared.constant.Const.{Const}
 use Rattle.tb_prim.specs.declared.event.Event.{Event}
 use Rattle.tb_semantics.specs.Graph.{IsIn}
-use Rattle.tb_semantics.proofs.Worlds.{Both, Only, World}
-use Rattle.tb_core.specs.Tree.{Tree, Node, Form, Quote, Local, Global, Lambda, If, SetLocal, SetGlobal, DefGlobal, Let, Letrec, Seq, Call, PrimUse, Apply, Trees, none, more, count, tree_at, ProgramTree}
-use Rattle.tb_core.specs.FreeVariables.{is_in, without, free, free_form, free_all, inner_free, is_assigned}
-use Rattle.tb_core.specs.OperandOrder.{has_order, operands, line_at, line_of, order_of}
-use Rattle.tb_core.specs.FirstUses.{first_of}
-use Rattle.tb_core.specs.Rules.{Each, EachForm, EachAll, NodeKeeps, NoMark, ConstKeeps, is_mark}
+use Rattle.tb_semantics.proofs.Worlds.{Both, World}
+use Rattle.tb_core.specs.Tree.{Tree, Node, Quote, Local, SetLocal, ProgramTree}
+use Rattle.tb_core.specs.FreeVariables.{is_assigned}
+use Rattle.tb_core.specs.OperandOrder.{order_of}
+use Rattle.tb_core.specs.Rules.{Each, ConstKeeps, is_mark}
 use Rattle.tb_core.specs.Store as S
 use Rattle.tb_core.specs.Store.{Value, At, value_of}
-use Rattle.tb_core.specs.Effects.{is_false}
 use Rattle.tb_core.specs.Space as Space
 use Rattle.tb_core.specs.Space.{values_locations, env_locations}
 use Rattle.tb_core.specs.Reference as R
 use Rattle.tb_core.specs.Partners as Like
-use Rattle.tb_core.proofs.FirstUses.{first_of-in}
-use Rattle.tb_core.proofs.Members.{in-left, in-right, in-either, in-tested, tested-in}
 use Rattle.tb_ir.specs.Tree as C
-use Rattle.tb_ir.specs.FreeVariables as F
 use Rattle.tb_ir.specs.Machine as M
 use Rattle.tb_ir.specs.TreeMachine as T
 use Rattle.tb_ir.specs.TreeMachine.{env_values}
 use Rattle.tb_ir.specs.Space as V
-use Rattle.tb_assign.specs.Eliminate.{name_site, cell_name, read_variable, eliminate, eliminate_form, eliminate_all, cells_of}
-use Rattle.tb_assign.proofs.Free.{Same, AreSmall}
+use Rattle.tb_assign.specs.Eliminate.{cell_name, eliminate, cells_of}
 use Rattle.tb_assign.proofs.Rel as Rel
 use Rattle.tb_assign.proofs.Rel.{Partner, Alike, AllAlike, VarRel, EnvRel, Covers, ControlRel, WorkRel, FramesRel, ItemRel, ValuesRel, none_yet, Good, Ready, may_top, free_cells, free_all_cells, source, target}
-use Rattle.tb_assign.proofs.Envs.{covers-gather, gather-cut, gather-points, gather-finds, looked-up, Points}
-use Rattle.tb_assign.proofs.Match.{Matches, match-one, match-both, match-more, match-var, match-env, lookup-location, sources}
+use Rattle.tb_assign.proofs.Envs.{gather-points, gather-finds, looked-up}
+use Rattle.tb_assign.proofs.Match.{Matches, match-one, match-both, match-more, match-env, lookup-location, sources}
 use Rattle.tb_assign.proofs.Shape.{Held, alike-held, holds-for, source_roots}
-use Rattle.tb_assign.proofs.Base.{Ground, Base, running, stopped, reading, setting, Goes, here, alone, step, source_step, pending_state, held-by}
-use Rattle.tb_assign.proofs.Simple.{goes, goes-made, goes-value, goes-written, anywhere, fails, loses, reads-global, assigns-global, sets-global}
-use Rattle.tb_assign.proofs.Lines.{numbers-all, values-last, values-long, drop-at}
-use Rattle.tb_assign.proofs.Nodes.{Bodies, evaluates, sequences, continues}
+use Rattle.tb_assign.proofs.Base.{Ground, reading, setting, Goes, here, alone, step, pending_state, held-by}
+use Rattle.tb_assign.proofs.Simple.{goes, goes-written, anywhere, fails, loses}
 
 -- both take a step, or the program with cells alone while its measure falls
 pub data Next (p : ProgramTree) (input : List ℕ) (c : T.TreeConfig) (d : R.Config) (k : M.Control C.Tree)
@@ -93,7 +85,7 @@ module _ (p : ProgramTree) (input : List ℕ) (w : World Value) (c : T.TreeConfi
       Matches w (sources p w d.store (source_roots p d)) (t ∷ []) (env_locations h)
   match_cell t s y h e i =
       match-more w (sources p w d.store (source_roots p d))
-          (λ n. ⊎_elim (λ q. subst (λ a. IsIn a (env_locations h)) q (lookup-location h y s e)) (λ j. absurd j))
+      (λ n. ⊎_elim (λ q. subst (λ a. IsIn a (env_locations h)) q (lookup-location h y s e)) (λ j. absurd j))
       (match-one w (sources p w d.store (source_roots p d)) t s i)
 
 -- the program with cells takes a step by itself
@@ -115,14 +107,14 @@ module _ (p : ProgramTree) (input : List ℕ) (w : World Value) (c : T.TreeConfi
   held_above : (m : M.Control C.Tree) (a : T.TreeWork) (ls : List ℕ) →
       Matches w (sources p w d.store (source_roots p d)) ls (Space.control_locations d.control) →
       V.control_locations m ++
-          (values_locations
-          (T.work_values a) ++ V.frames_locations T.work_values c.frames) ≡ ls ++ V.frames_locations T.work_values c.frames → Held p w (above m a) d
+      (values_locations
+      (T.work_values a) ++ V.frames_locations T.work_values c.frames) ≡ ls ++ V.frames_locations T.work_values c.frames → Held p w (above m a) d
   held_above m a ls h e = held-by p w (above m a) d (ground_above m a) c.frames ls f (zero-add _) h e
 
   -- the cell of a variable is found, and the frame of its node waits for it
   module _ (q : Place) (s y t l : ℕ) (r : M.Env) (h : S.Env) (es : List Event)
       (here_t : M.lookup r y ≡ Some (At t)) (there_l : S.lookup h y ≡ Some l) (at : IsIn (Both t l) w)
-          (v : EnvRel (is_assigned p) w r h)
+      (v : EnvRel (is_assigned p) w r h)
       (control : Space.control_locations d.control ≡ env_locations h) where
     named : M.lookup (M.gather (y ∷ []) r) y ≡ Some (At t)
     named = gather-finds (y ∷ []) r y (At t) (inl refl) here_t
@@ -133,7 +125,7 @@ module _ (p : ProgramTree) (input : List ℕ) (w : World Value) (c : T.TreeConfi
         (Matches w (sources p w d.store (source_roots p d)) (values_locations (env_values (M.gather (y ∷ []) r))))
         (sym control)
         (match-env p w d.store (source_roots p d) (holds-for p w c.store d.store (source_roots p d) k.stores)
-            (is_assigned p) (M.gather (y ∷ []) r) h (one_found p input w c d k y r h v))
+        (is_assigned p) (M.gather (y ∷ []) r) h (one_found p input w c d k y r h v))
 
     match_there : Matches w (sources p w d.store (source_roots p d)) (t ∷ []) (Space.control_locations d.control)
     match_there = subst (Matches w (sources p w d.store (source_roots p d)) (t ∷ [])) (sym control)
@@ -142,45 +134,45 @@ module _ (p : ProgramTree) (input : List ℕ) (w : World Value) (c : T.TreeConfi
     -- a variable that is read
     pub goes-reading : d.control ≡ R.Eval (Node q s (Local y)) h →
         Goes p input (R.Running d es)
-            (M.Running
-            (above (M.Eval (cell_name (is_assigned p) q s y) (M.gather (y ∷ []) r))
-            (T.Args q s (C.CellGet (cell_name (is_assigned p) q s y)) [] M.Empty)) es)
+        (M.Running
+        (above (M.Eval (cell_name (is_assigned p) q s y) (M.gather (y ∷ []) r))
+        (T.Args q s (C.CellGet (cell_name (is_assigned p) q s y)) [] M.Empty)) es)
     goes-reading e =
         let a : T.TreeWork = T.Args q s (C.CellGet (cell_name (is_assigned p) q s y)) [] M.Empty in
         let held1 = held_above (M.Eval (cell_name (is_assigned p) q s y) (M.gather (y ∷ []) r)) a _ match_named refl in
         let held2 = held_above (M.Val (At t)) a _ match_there refl in
         alone_to p input w _ (M.Running (above (M.Val (At t)) a) es) _
         (ap (λ o. M.give_value
-            (above (M.Eval (cell_name (is_assigned p) q s y) (M.gather (y ∷ []) r)) a) o es) named) refl held1
-            (omega arith)
+        (above (M.Eval (cell_name (is_assigned p) q s y) (M.gather (y ∷ []) r)) a) o es) named) refl held1
+        (omega arith)
         (here (reading {w = w} (ground_above (M.Val (At t)) a) f refl refl e there_l at held2))
 
     -- a variable that is set; `z` is the environment of its expression
     pub goes-setting : (e : Tree) (z : M.Env) → d.control ≡ R.Eval (Node q s (SetLocal y e)) h → Each (Good p) e →
         is_mark e ≡ false → Covers (free_cells p e) z → EnvRel (is_assigned p) w z h →
         Goes p input (R.Running d es)
-            (M.Running
-            (above (M.Eval (cell_name (is_assigned p) q s y) (M.gather (y ∷ []) r))
-            (T.Args q s (C.CellSet (cell_name (is_assigned p) q s y) (eliminate (is_assigned p) e)) [] z)) es)
+        (M.Running
+        (above (M.Eval (cell_name (is_assigned p) q s y) (M.gather (y ∷ []) r))
+        (T.Args q s (C.CellSet (cell_name (is_assigned p) q s y) (eliminate (is_assigned p) e)) [] z)) es)
     goes-setting e z q_d good no_mark cv ve =
         let a : T.TreeWork = T.Args q s
-            (C.CellSet (cell_name (is_assigned p) q s y) (eliminate (is_assigned p) e)) [] z in
+        (C.CellSet (cell_name (is_assigned p) q s y) (eliminate (is_assigned p) e)) [] z in
         let waits : Matches w (sources p w d.store (source_roots p d)) (values_locations (env_values z))
-            (Space.control_locations d.control) =
-            subst (Matches w (sources p w d.store (source_roots p d)) (values_locations (env_values z))) (sym control)
-            (match-env p w d.store (source_roots p d) (holds-for p w c.store d.store (source_roots p d) k.stores)
-                (is_assigned p) z h ve) in
+        (Space.control_locations d.control) =
+        subst (Matches w (sources p w d.store (source_roots p d)) (values_locations (env_values z))) (sym control)
+        (match-env p w d.store (source_roots p d) (holds-for p w c.store d.store (source_roots p d) k.stores)
+        (is_assigned p) z h ve) in
         let held1 = held_above (M.Eval (cell_name (is_assigned p) q s y) (M.gather (y ∷ []) r)) a _
-            (match-both w (sources p w d.store (source_roots p d)) match_named waits)
-            (sym (append_assoc (values_locations (env_values (M.gather (y ∷ []) r)))
-            (values_locations (env_values z)) _)) in
+        (match-both w (sources p w d.store (source_roots p d)) match_named waits)
+        (sym (append_assoc (values_locations (env_values (M.gather (y ∷ []) r)))
+        (values_locations (env_values z)) _)) in
         let held2 = held_above (M.Val (At t)) a _
-            (match-both w (sources p w d.store (source_roots p d)) match_there waits)
-            (sym (append_assoc (t ∷ []) (values_locations (env_values z)) _)) in
+        (match-both w (sources p w d.store (source_roots p d)) match_there waits)
+        (sym (append_assoc (t ∷ []) (values_locations (env_values z)) _)) in
         alone_to p input w _ (M.Running (above (M.Val (At t)) a) es) _
         (ap (λ o. M.give_value
-            (above (M.Eval (cell_name (is_assigned p) q s y) (M.gather (y ∷ []) r)) a) o es) named) refl held1
-            (omega arith)
+        (above (M.Eval (cell_name (is_assigned p) q s y) (M.gather (y ∷ []) r)) a) o es) named) refl held1
+        (omega arith)
         (here (setting {w = w} (ground_above (M.Val (At t)) a) f refl refl q_d there_l at good no_mark cv ve held2))
 
 -- a cell that is read where its source reads a variable
@@ -211,7 +203,7 @@ module _ (p : ProgramTree) (input : List ℕ) (w : World Value) (c : T.TreeConfi
       let x = k.stores.linked t l at in
       subst (λ o. Goes p input (R.read_value d q (R.local_value o d.store) es) (M.get_cell c q (At t) fs es)) (sym e)
       (subst₂ (λ a b. Goes p input (R.read_value d q (R.held_value b) es) (M.get_held c q a fs es)) (sym x.here)
-          (sym x.there) (gets_item q x.item x.other fs es x.alike f))
+      (sym x.there) (gets_item q x.item x.other fs es x.alike f))
 
   -- a cell that is set where its source sets a variable
   sets_item : (t l : ℕ) (i : M.Item) (j : S.Item) (v u x : Value) (fs : List (M.Frame T.TreeWork))
@@ -227,9 +219,9 @@ module _ (p : ProgramTree) (input : List ℕ) (w : World Value) (c : T.TreeConfi
   pub sets-cell : (t l : ℕ) (v u x : Value) (fs : List (M.Frame T.TreeWork)) (hs : List R.Frame) (es : List Event) →
       IsIn (Both t l) w → slice_get d.store l ≡ Some (S.Var x) → Alike w false v u → FramesRel p w fs hs →
       Goes p input (R.go_with d (R.Val S.Unspecified) hs (slice_set d.store l (S.Var u)) es)
-          (M.set_cell c (At t) v fs es)
+      (M.set_cell c (At t) v fs es)
   sets-cell t l v u x fs hs es at e a f =
       let z = k.stores.linked t l at in
       subst (λ o. Goes p input (R.go_with d (R.Val S.Unspecified) hs (slice_set d.store l (S.Var u)) es)
-          (M.set_held c t o v fs es)) (sym z.here)
+      (M.set_held c t o v fs es)) (sym z.here)
       (sets_item t l z.item z.other v u x fs hs es at z.alike (same_Some z.other (S.Var x) (sym z.there ∙ e)) a f)

@@ -1,11 +1,10 @@
 -- How the states of a program with cells are related to those of its source: a variable that is assigned has a
 -- cell for its item, and another holds what its item holds for good.
-use Rattle.std.proofs.Common.{◌≡◌, refl, sym, ap, ◌∙◌, subst, ℕ, zero, suc, ◌+◌, ◌^◌, ◌<◌, ◌≤◌, inl, inr, ⊎_elim, arith, Bool, true, false, cond, IsTrue, List, [], ◌∷◌, ◌++◌, length, drop, Option, Some, None, slice_get}
+use Rattle.std.proofs.Common.{◌≡◌, ℕ, suc, ◌^◌, ◌<◌, ◌≤◌, Bool, true, false, cond, IsTrue, List, [], ◌∷◌, ◌++◌, length, drop, Option, Some, None, slice_get}
 use Rattle.tb_prim.specs.declared.place.Place.{Place}
-use Rattle.tb_prim.specs.declared.event.Event.{Event}
 use Rattle.tb_semantics.specs.Graph.{IsIn, IsApart}
-use Rattle.tb_semantics.proofs.Worlds.{Entry, Both, Only, World, Grows, Items, Stores}
-use Rattle.tb_core.specs.Tree.{Tree, Node, Form, SetLocal, Let, Letrec, Trees, LambdaTree, ProgramTree, parameters, tree_at}
+use Rattle.tb_semantics.proofs.Worlds.{Both, Only, World}
+use Rattle.tb_core.specs.Tree.{Tree, Form, SetLocal, Let, Letrec, Trees, LambdaTree, ProgramTree, parameters, tree_at}
 use Rattle.tb_core.specs.FreeVariables.{free, lambda_free, inner_free, is_assigned}
 use Rattle.tb_core.specs.OperandOrder.{HasLine, has_order, line_at, order_of}
 use Rattle.tb_core.specs.Rules.{Each, EachForm, EachAll, NodeKeeps, StaticsKeep, NoMark, is_mark}
@@ -143,8 +142,8 @@ module _ (p : ProgramTree) where
         Good p s f → EachForm (Good p) f →
         ValuesRel w f (line_at (order_of p) s) vs us → length us < length (line_at (order_of p) s) →
         Covers (T.free_of_numbers target (C.operands (eliminate_form assigned q s f))
-            (drop (suc (length us)) (line_at (order_of p) s)) ++ T.free_of_body target
-            (eliminate_form assigned q s f)) r →
+        (drop (suc (length us)) (line_at (order_of p) s)) ++ T.free_of_body target
+        (eliminate_form assigned q s f)) r →
         EnvRel assigned w r h →
         WorkRel w (M.Own (T.Args q s (eliminate_form assigned q s f) vs r)) (R.Args q s f us h)
 

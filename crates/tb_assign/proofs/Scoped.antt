@@ -1,14 +1,11 @@
 -- What the rules of a program give for its variables: names are small, lists are apart, and targets are assigned.
-use Rattle.std.proofs.Common.{◌≡◌, refl, sym, ap, ◌∙◌, subst, ℕ, zero, suc, ◌+◌, ◌^◌, ◌<◌, ◌≤◌, inl, inr, ⊎_elim, arith, Bool, true, false, List, [], ◌∷◌, ◌++◌, length, Option, Some, None, slice_get}
+use Rattle.std.proofs.Common.{◌≡◌, refl, ℕ, inl, inr, ⊎_elim, Bool, true, List, [], ◌∷◌, ◌++◌}
 use Rattle.std.proofs.lemmas.Bool.{cases_Bool}
-use Rattle.std.proofs.lemmas.Option.{same_Some}
-use Rattle.tb_prim.specs.declared.place.Place.{Place}
 use Rattle.tb_semantics.specs.Graph.{IsIn, IsApart}
-use Rattle.tb_core.specs.Tree.{Tree, Node, Form, Quote, Local, Global, Lambda, If, SetLocal, SetGlobal, DefGlobal, Let, Letrec, Seq, Call, PrimUse, Apply, Trees, none, more, LambdaTree, ProgramTree, parameters}
-use Rattle.tb_core.specs.FreeVariables.{is_in, without, of_lambdas, free, free_form, free_all, inner_free, lambda_free, is_assigned, targets, targets_form, targets_all, targets_of_lambdas}
-use Rattle.tb_core.specs.Rules.{Every, Each, EachForm, EachAll, KeepsRules, bound, bound_form, bound_all, bound_in_lambdas, variables, inner, inner_form, inner_all, inner_of_lambdas, standing, InnerAreGreater}
-use Rattle.tb_core.proofs.Members.{in-left, in-right, in-either, in-tested, tested-in, in-without}
-use Rattle.tb_core.proofs.Numbers.{free-of-lambda}
+use Rattle.tb_core.specs.Tree.{Tree, Node, Form, Quote, Local, Global, Lambda, If, SetLocal, SetGlobal, DefGlobal, Let, Letrec, Seq, Call, PrimUse, Apply, Trees, none, more}
+use Rattle.tb_core.specs.FreeVariables.{is_in, without, of_lambdas, free, free_form, free_all, targets, targets_form, targets_all}
+use Rattle.tb_core.specs.Rules.{Each, EachForm, EachAll, bound, bound_form, bound_all}
+use Rattle.tb_core.proofs.Members.{in-left, in-right, in-tested, in-without}
 use Rattle.tb_assign.proofs.Free.{AreSmall, NamesSmall}
 
 pub apart-left : (xs ys : List ℕ) → IsApart (xs ++ ys) → IsApart xs
@@ -54,7 +51,8 @@ module _ (I : ℕ → List ℕ) (g : ℕ → Bool) where
   -- the body of a binder
   inside : (xs ns bs ts : List ℕ) → AreSmall xs → Around (without xs ns) bs ts → Around ns bs ts
   inside xs ns bs ts small a = record {
-    free_small = λ y i. ⊎_elim (λ t. small y (in-tested xs y t)) (λ n. a.free_small y (in-without xs ns y i n)) (cases_Bool (is_in xs y));
+    free_small = λ y i. ⊎_elim (λ t. small y (in-tested xs y t)) (λ n. a.free_small y (in-without xs ns y i n))
+        (cases_Bool (is_in xs y));
     bound_small = a.bound_small;
     apart = a.apart;
     set = a.set;
@@ -86,23 +84,57 @@ module _ (I : ℕ → List ℕ) (g : ℕ → Bool) where
     scoped_form (Global n) a = tt
     scoped_form (Lambda l) a = tt
     scoped_form (If b c d) a =
-        let rest = right (free I b) _ (bound b) _ (targets b) _ a in
-        (scoped b (left (free I b) _ (bound b) _ (targets b) _ a), scoped c (left (free I c) _ (bound c) _ (targets c) _ rest), scoped d (right (free I c) _ (bound c) _ (targets c) _ rest))
-    scoped_form (SetLocal x e) a = scoped e (record { free_small = λ y i. a.free_small y (inr i); bound_small = a.bound_small; apart = a.apart; set = λ y i. a.set y (inr i) })
+        let rest = right (free I b) _ (bound b) _ (targets b) _ a in (
+          scoped b (left (free I b) _ (bound b) _ (targets b) _ a),
+          scoped c
+              (left (free I c) _ (bound c) _ (targets c) _ rest),
+          scoped d
+              (right (free I c) _ (bound c) _ (targets c) _ rest),
+        )
+    scoped_form (SetLocal x e) a = scoped e
+        (record {
+          free_small = λ y i. a.free_small y
+              (inr i);
+          bound_small = a.bound_small;
+          apart = a.apart;
+          set = λ y i. a.set y (inr i);
+        })
     scoped_form (SetGlobal n e) a = scoped e a
     scoped_form (DefGlobal n e) a = scoped e a
     scoped_form (Let xs es e) a =
-        let below : Around (free_all I es ++ without xs (free I e)) (bound_all es ++ bound e) (targets_all es ++ targets e) = record { free_small = a.free_small; bound_small = small_right xs _ a.bound_small; apart = apart-right xs _ a.apart; set = a.set } in
-        (scoped_all es (left (free_all I es) _ (bound_all es) _ (targets_all es) _ below),
-        scoped e (inside xs (free I e) (bound e) (targets e) (small_left xs _ a.bound_small) (right (free_all I es) _ (bound_all es) _ (targets_all es) _ below)))
+        let below : Around (free_all I es ++ without xs (free I e)) (bound_all es ++ bound e)
+        (targets_all es ++ targets e) = record { free_small = a.free_small; bound_small = small_right xs _ a.bound_small; apart = apart-right xs _ a.apart; set = a.set } in (
+          scoped_all es (left (free_all I es) _ (bound_all es) _ (targets_all es) _ below),
+          scoped e (inside xs (free I e) (bound e) (targets e) (small_left xs _ a.bound_small)
+              (right (free_all I es) _ (bound_all es) _ (targets_all es) _ below)),
+        )
     scoped_form (Letrec xs ls e) a =
-        let ins = inside xs (of_lambdas I ls ++ free I e) (bound e) (targets e) (small_left xs _ a.bound_small) (record { free_small = a.free_small; bound_small = small_right xs _ a.bound_small; apart = apart-right xs _ a.apart; set = a.set }) in
-        scoped e (record { free_small = small_right (of_lambdas I ls) _ ins.free_small; bound_small = ins.bound_small; apart = ins.apart; set = ins.set })
+        let ins = inside xs (of_lambdas I ls ++ free I e) (bound e) (targets e) (small_left xs _ a.bound_small)
+        (record { free_small = a.free_small; bound_small = small_right xs _ a.bound_small; apart = apart-right xs _ a.apart; set = a.set }) in
+        scoped e (record {
+          free_small = small_right
+              (of_lambdas I ls) _ ins.free_small;
+          bound_small = ins.bound_small;
+          apart = ins.apart;
+          set = ins.set;
+        })
     scoped_form (Seq es) a = scoped_all es a
-    scoped_form (Call f es) a = (scoped f (left (free I f) _ (bound f) _ (targets f) _ a), scoped_all es (right (free I f) _ (bound f) _ (targets f) _ a))
+    scoped_form (Call f es) a = (
+      scoped f (left (free I f) _ (bound f) _ (targets f) _ a),
+      scoped_all es
+          (right (free I f) _ (bound f) _ (targets f) _ a),
+    )
     scoped_form (PrimUse q es) a = scoped_all es a
-    scoped_form (Apply f l) a = (scoped f (left (free I f) _ (bound f) _ (targets f) _ a), scoped l (right (free I f) _ (bound f) _ (targets f) _ a))
+    scoped_form (Apply f l) a = (
+      scoped f (left (free I f) _ (bound f) _ (targets f) _ a),
+      scoped l
+          (right (free I f) _ (bound f) _ (targets f) _ a),
+    )
 
     pub scoped_all : (es : Trees) → Around (free_all I es) (bound_all es) (targets_all es) → EachAll Scoped es
     scoped_all none a = tt
-    scoped_all (more e es) a = (scoped e (left (free I e) _ (bound e) _ (targets e) _ a), scoped_all es (right (free I e) _ (bound e) _ (targets e) _ a))
+    scoped_all (more e es) a = (
+      scoped e (left (free I e) _ (bound e) _ (targets e) _ a),
+      scoped_all es
+          (right (free I e) _ (bound e) _ (targets e) _ a),
+    )

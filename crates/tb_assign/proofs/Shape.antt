@@ -1,13 +1,11 @@
 -- What a state of a program with cells holds is within what the state of its source holds.
-use Rattle.std.proofs.Common.{◌≡◌, refl, sym, ap, ◌∙◌, subst, ℕ, zero, suc, ◌+◌, ◌≤◌, inl, inr, ⊎_elim, arith, Bool, true, false, IsTrue, List, [], ◌∷◌, ◌++◌, length, Option, Some, None, slice_get}
+use Rattle.std.proofs.Common.{◌≡◌, refl, sym, ap, ◌∙◌, ℕ, suc, ◌+◌, ◌≤◌, arith, Bool, false, IsTrue, List, [], ◌∷◌, ◌++◌, length, Some, slice_get}
 use Rattle.std.specs.Prelude.{sum_by}
 use Rattle.std.proofs.lemmas.List.Sums.{sum_by-cons}
-use Rattle.tb_prim.specs.declared.event.Event.{Event}
-use Rattle.tb_semantics.specs.Graph.{IsIn, Graph, Reaches, child, below, total}
-use Rattle.tb_semantics.specs.Keeps as K
+use Rattle.tb_semantics.specs.Graph.{IsIn, below, total}
 use Rattle.tb_semantics.proofs.Simulation as Sim
 use Rattle.tb_semantics.proofs.Reachable.{HasMatch}
-use Rattle.tb_semantics.proofs.Worlds.{Both, Only, World, Stores, Measure, total-stores, made-stores, made_size, made_size-items}
+use Rattle.tb_semantics.proofs.Worlds.{World, Stores, Measure, total-stores, made-stores, made_size, made_size-items}
 use Rattle.tb_core.specs.Tree.{ProgramTree}
 use Rattle.tb_core.specs.OperandOrder.{order_of}
 use Rattle.tb_core.specs.Store as S
@@ -26,7 +24,7 @@ use Rattle.tb_assign.specs.Eliminate.{cells_of}
 use Rattle.tb_assign.proofs.Rel as Rel
 use Rattle.tb_assign.proofs.Rel.{Partner, Alike, WorkRel, FramesRel, ItemRel, Known}
 use Rattle.tb_assign.proofs.Grow.{items}
-use Rattle.tb_assign.proofs.Match.{Matches, HoldsFor, match-item, sources}
+use Rattle.tb_assign.proofs.Match.{HoldsFor, match-item, sources}
 
 -- the items by a measure
 abbrev pub cell_measure : (M.Item → ℕ) → Measure M.Item
@@ -115,8 +113,8 @@ module _ (p : ProgramTree) (w : World Value) (c : T.TreeConfig) (d : R.Config) (
       total-stores M.Item S.Item Value (items p) w w c.store d.store h.stores (cell_measure a) (source_measure b) sizes
       (cell_roots p c) (source_roots p d) h.roots
       (λ i j k all.
-          (match-item p w d.store (source_roots p d)
-          (holds-for p w c.store d.store (source_roots p d) h.stores) i j k).by all)
+      (match-item p w d.store (source_roots p d)
+      (holds-for p w c.store d.store (source_roots p d) h.stores) i j k).by all)
 
 -- related states, from what they hold
 pub alike-held : (p : ProgramTree) (w : World Value) (input : List ℕ) (t : T.TreeState) (s : R.State) →
@@ -128,7 +126,7 @@ alike-held p w input t s e h =
     let closures = held_total p w c d h V.closures_in N.closures_in (closures_within p w) in
     let words = held_total p w c d h V.words_in N.words_in (words_within p w) in
     let made = made-stores M.Item S.Item Value (items p) w w c.store d.store h.stores (cell_measure cell_all)
-        (source_measure source_all) (all_within p w) in
+    (source_measure source_all) (all_within p w) in
     let of_cells = cells_made c.store in
     let of_source = source_made d.store in
     let marks = h.marks in

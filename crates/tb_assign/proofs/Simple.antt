@@ -1,18 +1,18 @@
 -- What both machines do in one step with values that stand for one another.
-use Rattle.std.proofs.Common.{◌≡◌, refl, sym, ap, ◌∙◌, subst, subst₂, ℕ, zero, suc, ◌+◌, ◌<◌, ◌≤◌, inl, inr, ⊎_elim, arith, Bool, true, false, cond, ◌==◌, IsTrue, List, [], ◌∷◌, ◌++◌, length, Option, Some, None, slice_get, slice_set, eq-eqb, eqb-true, length-set}
+use Rattle.std.proofs.Common.{◌≡◌, refl, sym, ◌∙◌, subst, subst₂, ℕ, zero, suc, inl, ⊎_elim, Bool, true, false, ◌==◌, IsTrue, List, [], ◌∷◌, ◌++◌, length, Some, slice_get, slice_set, eq-eqb, eqb-true}
 use Rattle.std.proofs.lemmas.Bool.{cases_Bool, eqb-false}
 use Rattle.tb_prim.specs.declared.place.Place.{Place}
 use Rattle.tb_prim.specs.declared.event.Event.{Event}
 use Rattle.tb_prim.specs.declared.event.Cause.{Cause}
 use Rattle.tb_prim.specs.declared.primitive.Primitive.{Primitive}
 use Rattle.tb_semantics.specs.Graph.{IsIn}
-use Rattle.tb_semantics.proofs.Worlds.{Entry, Both, Only, World, Grows, Stores, stores_stay, both_made, both_written, grows_one, grows_refl}
-use Rattle.tb_core.specs.Tree.{Tree, ProgramTree}
+use Rattle.tb_semantics.proofs.Worlds.{Entry, Both, World, Grows, Stores, stores_stay, both_made, both_written, grows_one, grows_refl}
+use Rattle.tb_core.specs.Tree.{ProgramTree}
 use Rattle.tb_core.specs.Store as S
 use Rattle.tb_core.specs.Store.{Value, Undefined, At, Unspecified, EndObject, Char, Object, Content, Holds}
 use Rattle.tb_core.specs.Effects as Do
 use Rattle.tb_core.specs.Effects.{Effect}
-use Rattle.tb_core.specs.Lists.{Walked, Elements, TooLong, NoList}
+use Rattle.tb_core.specs.Lists.{Walked}
 use Rattle.tb_core.specs.Reference as R
 use Rattle.tb_core.specs.Partners as Like
 use Rattle.tb_core.specs.Partners.{AlikeLists, AlikeContents, AlikeObjects, AlikeEffects, AlikeWalks, Partnered}
@@ -25,7 +25,7 @@ use Rattle.tb_assign.proofs.Rel.{Partner, Alike, AllAlike, ControlRel, WorkRel, 
 use Rattle.tb_assign.proofs.Grow as Grow
 use Rattle.tb_assign.proofs.Grow.{items}
 use Rattle.tb_assign.proofs.Shape.{Held}
-use Rattle.tb_assign.proofs.Base.{Ground, Base, running, stopped, lost, Goes, here}
+use Rattle.tb_assign.proofs.Base.{Ground, running, stopped, lost, Goes, here}
 
 not_true : IsTrue false → ⊥
 not_true f = let q : false ≡ true = f in cc
@@ -67,7 +67,7 @@ module _ (p : ProgramTree) (input : List ℕ) (w : World Value) (c : T.TreeConfi
   -- an item that both make
   pub one-made : (i : M.Item) (j : S.Item) → ItemRel p w i j →
       Stores (items p) (Both (length c.store) (length d.store) ∷ w) (Both (length c.store) (length d.store) ∷ w)
-          (c.store ++ i ∷ []) (d.store ++ j ∷ [])
+      (c.store ++ i ∷ []) (d.store ++ j ∷ [])
   one-made i j h =
       let k : Entry Value = Both (length c.store) (length d.store) in
       both_made M.Item S.Item Value (items p) (k ∷ w) w c.store d.store i j
@@ -77,7 +77,7 @@ module _ (p : ProgramTree) (input : List ℕ) (w : World Value) (c : T.TreeConfi
   pub goes-made : (i : M.Item) (j : S.Item) (fs : List (M.Frame T.TreeWork)) (hs : List R.Frame) (es : List Event) →
       ItemRel p w i j → FramesRel p w fs hs →
       Goes p input (R.go_with d (R.Val (At (length d.store))) hs (d.store ++ j ∷ []) es)
-          (M.go_with c (M.Val (At (length c.store))) fs (c.store ++ i ∷ []) es)
+      (M.go_with c (M.Val (At (length c.store))) fs (c.store ++ i ∷ []) es)
   goes-made i j fs hs es h f =
       let k : Entry Value = Both (length c.store) (length d.store) in
       goes-with (k ∷ w) _ _ fs hs _ _ es (grows_one k w) (one-made i j h) (Rel.val (Like.at (inl refl))) f
@@ -93,15 +93,15 @@ module _ (p : ProgramTree) (input : List ℕ) (w : World Value) (c : T.TreeConfi
       (M.go_with c (M.Val Unspecified) fs (slice_set c.store t i) es)
   goes-written t s i j fs hs es at h f =
       goes-with w _ _ fs hs _ _ es (grows_refl w)
-          (both_written M.Item S.Item Value (items p) w w c.store d.store t s i j g.stores at h)
-          (Rel.val Like.unspecified) f
+      (both_written M.Item S.Item Value (items p) w w c.store d.store t s i j g.stores at h)
+      (Rel.val Like.unspecified) f
 
   -- the stores as the primitives see them
   pub partnered : Partnered (Partner w) (IsTrue false) (M.contents c.store) (S.contents d.store)
   partnered = record {
     one_to_one = λ a b e f i j. ⊎_elim
         (λ q. q ∙ sym
-            (eq-eqb e f (g.stores.one_source a e f i (subst (λ n. IsIn (Both n f) w) (sym (eqb-true a b q)) j))))
+        (eq-eqb e f (g.stores.one_source a e f i (subst (λ n. IsIn (Both n f) w) (sym (eqb-true a b q)) j))))
         (λ q. q ∙ sym (apart_tested a b e f i j q))
         (cases_Bool (a == b));
     alike = λ a e i. let l = g.stores.linked a e i in subst₂
@@ -118,7 +118,7 @@ module _ (p : ProgramTree) (input : List ℕ) (w : World Value) (c : T.TreeConfi
       apart_tested : (a b e f : ℕ) → IsIn (Both a e) w → IsIn (Both b f) w → (a == b) ≡ false → (e == f) ≡ false
       apart_tested a b e f i j q = ⊎_elim
           (λ same. absurd
-              (eqb-false a b q (g.stores.one_target a b f (subst (λ n. IsIn (Both a n) w) (eqb-true e f same) i) j)))
+          (eqb-false a b q (g.stores.one_target a b f (subst (λ n. IsIn (Both a n) w) (eqb-true e f same) i) j)))
           (λ n. n)
           (cases_Bool (e == f))
 
@@ -163,7 +163,7 @@ module _ (p : ProgramTree) (input : List ℕ) (w : World Value) (c : T.TreeConfi
         Goes p input (R.assign_global d n u hs es) (M.assign_global c n v fs es)
     assigns-global n v u fs hs es h f =
         here (running {w = w}
-            (record { globals = globals_set n _ _ v u g.globals h; stores = g.stores; statics = g.statics; input = g.input; met = g.met }) (Rel.val Like.unspecified) f)
+        (record { globals = globals_set n _ _ v u g.globals h; stores = g.stores; statics = g.statics; input = g.input; met = g.met }) (Rel.val Like.unspecified) f)
 
     sets_held : (n : ℕ) (q : Place) (v u x y : Value) (fs : List (M.Frame T.TreeWork)) (hs : List R.Frame)
         (es : List Event) → Alike w true x y → Alike w false v u → FramesRel p w fs hs →
@@ -211,7 +211,7 @@ module _ (p : ProgramTree) (input : List ℕ) (w : World Value) (c : T.TreeConfi
     enters q _ _ vs us fs hs es (Like.at {a = t} {b = s} i) k f =
         let l = g.stores.linked t s i in
         subst₂ (λ x y. Goes p input (R.enter_at d q s y us hs es) (M.enter_at c q t x vs fs es)) (sym l.here)
-            (sym l.there)
+        (sym l.there)
         (enters_item q t s l.item l.other vs us fs hs es i l.alike k f)
     enters q _ _ vs us fs hs es _ k f = fails _ q es
 
@@ -236,7 +236,7 @@ module _ (p : ProgramTree) (input : List ℕ) (w : World Value) (c : T.TreeConfi
     applies q _ _ x y fs hs es (Like.at {a = t} {b = s} i) k f =
         let l = g.stores.linked t s i in
         subst₂ (λ a b. Goes p input (R.apply_at d q s b y hs es) (M.apply_at c q t a x fs es)) (sym l.here)
-            (sym l.there)
+        (sym l.there)
         (applies_item q t s l.item l.other x y fs hs es i l.alike k f)
     applies q _ _ x y fs hs es _ k f = fails _ q es
 
@@ -281,10 +281,10 @@ module _ (p : ProgramTree) (input : List ℕ) (w : World Value) (c : T.TreeConfi
     performs q _ _ fs hs es Like.puts f = goes-value _ _ fs hs _ Like.unspecified f
     performs q _ _ fs hs es Like.takes f =
         subst₂ (λ m bs. Goes p input (R.take_input d d.met_end d.input hs es) (M.take_input c m bs fs es))
-            (sym g.met) (sym g.input) (takes_input d.met_end d.input fs hs es refl refl f)
+        (sym g.met) (sym g.input) (takes_input d.met_end d.input fs hs es refl refl f)
     performs q _ _ fs hs es Like.peeks f =
         subst₂ (λ m bs. Goes p input (R.peek_input d d.met_end d.input hs es) (M.peek_input c m bs fs es))
-            (sym g.met) (sym g.input) (peeks_input d.met_end d.input fs hs es f)
+        (sym g.met) (sym g.input) (peeks_input d.met_end d.input fs hs es f)
     performs q _ _ fs hs es Like.fails f = fails _ q es
     performs q _ _ fs hs es Like.misused f = loses es
 

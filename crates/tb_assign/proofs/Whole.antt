@@ -1,17 +1,16 @@
 -- A program with cells keeps its source: its events, what it holds at once, and what it makes.
-use Rattle.std.proofs.Common.{◌≡◌, refl, sym, ap, ◌∙◌, subst, subst₂, ℕ, zero, suc, ◌+◌, ◌<◌, ◌≤◌, inl, inr, ⊎_elim, arith, Bool, true, false, IsTrue, List, [], ◌∷◌, ◌++◌, length, map, replicate, Option, Some, None, slice_get, append_assoc, append-nil, length-append}
+use Rattle.std.proofs.Common.{◌≡◌, refl, sym, ap, ◌∙◌, subst, subst₂, ℕ, zero, suc, ◌+◌, ◌<◌, ◌≤◌, arith, Bool, true, false, IsTrue, List, [], ◌∷◌, ◌++◌, length, map, replicate, append_assoc, append-nil, length-append}
 use Rattle.std.proofs.lemmas.Bool.{both_ways}
-use Rattle.tb_prim.specs.declared.place.Place.{Place}
 use Rattle.tb_prim.specs.declared.constant.Const.{Const}
 use Rattle.tb_prim.specs.declared.constant.Static.{Static}
 use Rattle.tb_prim.specs.declared.event.Event.{Event}
 use Rattle.tb_semantics.specs.Graph.{IsIn}
-use Rattle.tb_semantics.specs.Runs.{run, after}
+use Rattle.tb_semantics.specs.Runs.{after}
 use Rattle.tb_semantics.specs.Keeps.{Keeps}
 use Rattle.tb_semantics.proofs.RunLaws.{run-add}
 use Rattle.tb_semantics.proofs.Simulation as Sim
 use Rattle.tb_semantics.proofs.Simulation.{keeps_from}
-use Rattle.tb_semantics.proofs.Worlds.{Entry, Both, Only, World, Stores, both_made}
+use Rattle.tb_semantics.proofs.Worlds.{Both, World, Stores, both_made}
 use Rattle.tb_core.specs.Tree.{Tree, Node, Form, Quote, Local, Global, Lambda, If, SetLocal, SetGlobal, DefGlobal, Let, Letrec, Seq, Call, PrimUse, Apply, Trees, none, more, ProgramTree}
 use Rattle.tb_core.specs.FreeVariables.{free, inner_free, is_assigned}
 use Rattle.tb_core.specs.OperandOrder.{order_of}
@@ -29,13 +28,12 @@ use Rattle.tb_ir.specs.Tree as C
 use Rattle.tb_ir.specs.Machine as M
 use Rattle.tb_ir.specs.TreeMachine as T
 use Rattle.tb_ir.specs.Measures.{tree_measured}
-use Rattle.tb_assign.specs.Eliminate.{cell_name, cells_of, eliminate, eliminate_form}
+use Rattle.tb_assign.specs.Eliminate.{cell_name, cells_of, eliminate}
 use Rattle.tb_assign.proofs.Free.{Same, AreSmall, NamesSmall, same-free, same-inner, small-free, small-inner}
 use Rattle.tb_assign.proofs.Rel as Rel
 use Rattle.tb_assign.proofs.Rel.{Alike, FramesRel, Good, Ready, free_cells, inner_cells, source, target}
 use Rattle.tb_assign.proofs.Grow.{items}
 use Rattle.tb_assign.proofs.Shape.{alike-held}
-use Rattle.tb_assign.proofs.Base as B
 use Rattle.tb_assign.proofs.Base.{Ground, Base, running, stopped, lost, reading, setting, Goes, here, alone, step, source_step, pending_state, held}
 use Rattle.tb_assign.proofs.Moves.{Next, both, target_alone, gets-cell}
 use Rattle.tb_assign.proofs.Nodes.{Bodies, evaluates}
@@ -101,15 +99,15 @@ module _ (p : ProgramTree) (W : World Value) (all : (n : ℕ) → n < length p.s
       let i : M.Item = M.static_item s in
       let j : S.Item = S.static_item s in
       let one = both_made M.Item S.Item Value (items p) W v st js i j k
-          (Rel.object (static_alike n s (omega arith) h.0)) in
+      (Rel.object (static_alike n s (omega arith) h.0)) in
       let one' : Stores (items p) W (Both n n ∷ v) (st ++ i ∷ []) (js ++ j ∷ []) = subst₂
-          (λ a b. Stores (items p) W (Both a b ∷ v) (st ++ i ∷ []) (js ++ j ∷ [])) lt lj one in
+      (λ a b. Stores (items p) W (Both a b ∷ v) (st ++ i ∷ []) (js ++ j ∷ [])) lt lj one in
       let more_t : length (st ++ i ∷ []) ≡ suc n = length-append st (i ∷ []) ∙ ap (λ m. m + 1) lt
-          ∙ (let m : n + 1 ≡ suc n = omega arith in m) in
+      ∙ (let m : n + 1 ≡ suc n = omega arith in m) in
       let more_j : length (js ++ j ∷ []) ≡ suc n = length-append js (j ∷ []) ∙ ap (λ m. m + 1) lj
-          ∙ (let m : n + 1 ≡ suc n = omega arith in m) in
+      ∙ (let m : n + 1 ≡ suc n = omega arith in m) in
       subst₂ (Stores (items p) W (pairs_more (length ss) (suc n) (suc n) (Both n n ∷ v)))
-          (append_assoc st (i ∷ []) (map M.static_item ss)) (append_assoc js (j ∷ []) (map S.static_item ss))
+      (append_assoc st (i ∷ []) (map M.static_item ss)) (append_assoc js (j ∷ []) (map S.static_item ss))
       (statics_made ss (suc n) (Both n n ∷ v) (st ++ i ∷ []) (js ++ j ∷ []) more_t more_j (omega arith) h.1 one')
 
 no_stores : (p : ProgramTree) (W : World Value) → Stores (items p) W [] [] []
@@ -133,8 +131,8 @@ starts : (p : ProgramTree) (input : List ℕ) → Ready p →
 starts p input ready =
     let W : World Value = pairs_more (length p.statics) 0 0 [] in
     let all : (n : ℕ) → n < length p.statics →
-        IsIn (Both n n) W = λ n lt. subst₂ (λ a b. IsIn (Both a b) W) (let z : 0 + n ≡ n = omega arith in z)
-            (let z : 0 + n ≡ n = omega arith in z) (pair_in (length p.statics) 0 0 n [] lt) in
+    IsIn (Both n n) W = λ n lt. subst₂ (λ a b. IsIn (Both a b) W) (let z : 0 + n ≡ n = omega arith in z)
+    (let z : 0 + n ≡ n = omega arith in z) (pair_in (length p.statics) 0 0 n [] lt) in
     here (running {w = W}
     (record {
       globals = marks_alike W (length p.globals);
@@ -168,7 +166,7 @@ module _ (p : ProgramTree) (input : List ℕ) (rules : KeepsRules p) (ready : Re
   -- the variable of a frame that sets one is there
   sets_var : (st : List S.Item) (b : R.Work) → Kept.WorkOk p st b →
       Step.SetsVar p input ready bodies (all-groups p input same inner)
-          (all-entries p input ready bodies same inner) same small inner st b
+      (all-entries p input ready bodies same inner) same small inner st b
   sets_var st (R.Sel a b r) h = tt
   sets_var st (R.SetVar l) h = h
   sets_var st (R.SetGlo n d q) h = tt
@@ -212,7 +210,7 @@ module _ (p : ProgramTree) (input : List ℕ) (rules : KeepsRules p) (ready : Re
       let ok : Kept.After p 0 (R.Running d es) = subst (Kept.After p 0) (sym e) (run-keeps p rules input n) in
       by_next c d es n e
       (Step.moves p input ready bodies (all-groups p input same inner)
-          (all-entries p input ready bodies same inner) same small inner w c d k h c.control d.control es f refl refl r (top_sets w c d k h d.store d.frames (ok.0).frames))
+      (all-entries p input ready bodies same inner) same small inner w c d k h c.control d.control es f refl refl r (top_sets w c d k h d.store d.frames (ok.0).frames))
   base_moves _ _ n e (stopped {w = w} {c = c} {d = d} {es = es} h) = both_go (M.Stopped c es) (R.Stopped d es) n e
       (here (stopped h))
   base_moves _ _ n e (lost {w = w} {c = c} {d = d} {es = es} h) = both_go (M.Lost c es) (R.Lost d es) n e
@@ -221,23 +219,23 @@ module _ (p : ProgramTree) (input : List ℕ) (rules : KeepsRules p) (ready : Re
       (reading {w = w} {c = c} {d = d} {es = es} {q = q} {s = s} {x = x} {t = t} {l = l} {r = r} {fs = fs} k f ec ef ed lx i h) =
       both_go (M.Running c es) (R.Running d es) n e
       (subst₂ (λ m a. Goes p input (R.step_control (source p) d m es)
-          (M.step_control (T.language (cells_of p) (order_of p)) c a es)) (sym ed) (sym ec)
+      (M.step_control (T.language (cells_of p) (order_of p)) c a es)) (sym ed) (sym ec)
       (subst (λ gs. Goes p input (R.step_control (source p) d (R.Eval (Node q s (Local x)) r) es)
-          (M.give_top (T.language (cells_of p) (order_of p)) c (At t) gs es)) (sym ef)
+      (M.give_top (T.language (cells_of p) (order_of p)) c (At t) gs es)) (sym ef)
       (gets-cell p input w c d k h q t l x r fs es i lx f)))
   base_moves _ _ n e
       (setting {w = w} {c = c} {d = d} {es = es} {q = q} {s = s} {x = x} {t = t} {l = l} {e = b} {h = z} {r = r} {fs = fs} k f ec ef ed lx i good no_mark cv env h) =
       both_go (M.Running c es) (R.Running d es) n e
       (subst₂ (λ m a. Goes p input (R.step_control (source p) d m es)
-          (M.step_control (T.language (cells_of p) (order_of p)) c a es)) (sym ed) (sym ec)
+      (M.step_control (T.language (cells_of p) (order_of p)) c a es)) (sym ed) (sym ec)
       (subst (λ gs. Goes p input (R.step_control (source p) d (R.Eval (Node q s (SetLocal x b)) r) es)
-          (M.give_top (T.language (cells_of p) (order_of p)) c (At t) gs es)) (sym ef)
+      (M.give_top (T.language (cells_of p) (order_of p)) c (At t) gs es)) (sym ef)
       (subst (λ o. Goes p input (R.set_local (source p) d o b r es)
-          (T.evaluate_cut (target p) c (eliminate g b) z
-          (M.push (T.Args q s (C.CellSet (cell_name g q s x) (eliminate g b)) (At t ∷ []) M.Empty) fs) es)) (sym lx)
+      (T.evaluate_cut (target p) c (eliminate g b) z
+      (M.push (T.Args q s (C.CellSet (cell_name g q s x) (eliminate g b)) (At t ∷ []) M.Empty) fs) es)) (sym lx)
       (evaluates p input ready bodies same small w c d k h b (free_cells p b) z r _
-          (R.push (R.SetVar l) d.frames) es good (λ m. absurd (both_ways (is_mark b) no_mark m)) cv (λ y j. j) env
-          (Rel.frame (Rel.set_cell i) f)))))
+      (R.push (R.SetVar l) d.frames) es good (λ m. absurd (both_ways (is_mark b) no_mark m)) cv (λ y j. j) env
+      (Rel.frame (Rel.set_cell i) f)))))
 
   moves : (t : T.TreeState) (s : R.State) → Related t s → Moves t s
   moves t s r = goes_moves t (r.0)
@@ -272,11 +270,11 @@ module _ (p : ProgramTree) (input : List ℕ) (rules : KeepsRules p) (ready : Re
   pub cells-keep : Keeps (tree_measured (cells_of p) (order_of p) input) (N.reference_measured p (order_of p) input) 0
   cells-keep = keeps_from (tree_measured (cells_of p) (order_of p) input)
       (N.reference_measured p (order_of p) input) 0 (record {
-    R = Related;
-    size_t = pending_state;
-    size_s = λ s. 0;
-    starts = (starts p input ready, 0, refl);
-    moves = moves;
-    alike = alike;
-    in_order = Steps.in_order p (order_of p) input;
-  })
+        R = Related;
+        size_t = pending_state;
+        size_s = λ s. 0;
+        starts = (starts p input ready, 0, refl);
+        moves = moves;
+        alike = alike;
+        in_order = Steps.in_order p (order_of p) input;
+      })

@@ -1,8 +1,7 @@
 -- Assignment elimination. A parameter or a variable of a `let` that is assigned is replaced in its list by a fresh
 -- variable, and at the head of the body a new `let` binds it to a cell that is made of the fresh one. One `let`
 -- serves all assigned variables of one list, and it has no line in the order.
-use Rattle.std.specs.Prelude.{ℕ, suc, ◌+◌, ◌^◌, Bool, true, false, cond, List, [], ◌∷◌, filter, map, Option, Some, None}
-use Rattle.std.specs.List.{list_any}
+use Rattle.std.specs.Prelude.{ℕ, suc, ◌+◌, ◌^◌, Bool, true, false, cond, List, [], ◌∷◌, filter, Option, Some, None}
 use Rattle.tb_prim.specs.declared.place.Place.{Place}
 use Rattle.tb_core.specs.Tree.{Tree, Node, Form, Quote, Local, Global, Lambda, If, SetLocal, SetGlobal, DefGlobal, Let, Letrec, Seq, Call, PrimUse, Apply, Trees, none, more, LambdaTree, ProgramTree, parameters}
 use Rattle.tb_core.specs.FreeVariables.{is_assigned}

@@ -1,13 +1,13 @@
 -- The steps of trees and of A-normal form are steps of the machine of values.
-use Rattle.std.proofs.Common.{◌≡◌, refl, ℕ, zero, suc, arith, Bool, true, false, cond, List, [], ◌∷◌, ◌++◌, length, drop, Option, Some, None, slice_get}
+use Rattle.std.proofs.Common.{ℕ, true, false, List, [], ◌∷◌, Option, Some, None}
 use Rattle.tb_prim.specs.declared.place.Place.{Place}
 use Rattle.tb_prim.specs.declared.event.Event.{Event}
 use Rattle.tb_core.specs.OperandOrder.{Line}
 use Rattle.tb_core.specs.Store.{Value}
-use Rattle.tb_ir.specs.Tree.{Tree, Node, Form, Quote, Local, Global, Lambda, If, NewCell, CellGet, CellSet, SetGlobal, DefGlobal, Let, Letrec, Seq, Call, Direct, PrimUse, Apply, Trees, none, more, tree_at, operands, ProgramTree}
+use Rattle.tb_ir.specs.Tree.{Tree, Node, Form, Quote, Local, Global, Lambda, If, NewCell, CellGet, CellSet, SetGlobal, DefGlobal, Let, Letrec, Seq, Call, Direct, PrimUse, Apply, Trees, none, more, ProgramTree}
 use Rattle.tb_ir.specs.AnfTree as A
 use Rattle.tb_ir.specs.AnfTree.{AnfTree}
-use Rattle.tb_ir.specs.Machine.{Env, Frame, lookup}
+use Rattle.tb_ir.specs.Machine.{Env}
 use Rattle.tb_ir.specs.TreeMachine as T
 use Rattle.tb_ir.specs.TreeMachine.{TreeWork, Sel, SetGlo, Rest, Args, Context, TreeConfig, TreeState, Frames}
 use Rattle.tb_ir.specs.AnfMachine as N

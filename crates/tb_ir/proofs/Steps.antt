@@ -1,16 +1,16 @@
 -- What a step of the machine of values emits and makes, in any language whose own steps do so.
-use Rattle.std.proofs.Common.{◌≡◌, ◌≤◌, refl, sym, ap, ◌∙◌, ℕ, zero, suc, ◌+◌, arith, Bool, true, false, cond, List, [], ◌∷◌, ◌++◌, map, length, drop, Option, Some, None, slice_get, append-nil}
+use Rattle.std.proofs.Common.{◌≡◌, ◌≤◌, refl, sym, ap, ℕ, zero, suc, ◌+◌, arith, Bool, true, false, cond, List, [], ◌∷◌, ◌++◌, Option, Some, None, slice_get, append-nil}
 use Rattle.tb_prim.specs.declared.place.Place.{Place}
 use Rattle.tb_prim.specs.declared.constant.Static.{Static}
 use Rattle.tb_prim.specs.declared.constant.GlobalName.{GlobalName}
 use Rattle.tb_prim.specs.declared.event.Cause.{Cause}
 use Rattle.tb_prim.specs.declared.event.Event.{Event}
 use Rattle.tb_prim.specs.declared.primitive.Primitive.{Primitive}
-use Rattle.tb_semantics.specs.Runs.{Appends, EmitsInOrder, run, after}
+use Rattle.tb_semantics.specs.Runs.{Appends, EmitsInOrder, run}
 use Rattle.tb_core.specs.Store.{Value, Undefined, At}
 use Rattle.tb_core.specs.Effects.{Effect}
-use Rattle.tb_core.specs.Lists.{Walked, Elements, TooLong, NoList, list_objects}
-use Rattle.tb_core.specs.Events.{is_last, NoneLast}
+use Rattle.tb_core.specs.Lists.{Walked, Elements, TooLong, NoList}
+use Rattle.tb_core.specs.Events.{is_last}
 use Rattle.tb_core.proofs.Fits as fit
 use Rattle.tb_core.proofs.Fits.{Fit, fits}
 use Rattle.tb_core.proofs.Stores.{same-size}
@@ -113,7 +113,7 @@ module _ {C W : Type 0} (c : Config C W) where
   perform p _ fs es fit.makes = grows _ fs _ es
   perform p _ fs es (fit.changes {l = l} {o = o} old here k) =
       let same = made-set c.store l (Obj old) (Obj o) (content-object (slice_get c.store l) old here)
-          (ap (λ n. 0 + n) (same-size old o k)) in
+      (ap (λ n. 0 + n) (same-size old o k)) in
       quiet (omega arith)
   perform p _ fs es fit.puts = emits _ refl (omega arith)
   perform p _ fs es fit.takes = take_input _ _ fs es

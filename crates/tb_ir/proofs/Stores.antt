@@ -1,8 +1,8 @@
 -- Items of the machine of values, and what was made.
-use Rattle.std.proofs.Common.{◌≡◌, ◌≤◌, refl, sym, ap, ◌∙◌, ℕ, zero, suc, ◌+◌, arith, List, [], ◌∷◌, ◌++◌, Option, Some, None, slice_get, slice_set}
+use Rattle.std.proofs.Common.{◌≡◌, ◌≤◌, sym, ap, ◌∙◌, ℕ, zero, suc, ◌+◌, arith, List, [], ◌∷◌, ◌++◌, Option, Some, None, slice_get, slice_set}
 use Rattle.std.proofs.lemmas.Option.{same_Some}
-use Rattle.tb_core.specs.Store.{Value, Object, Holds}
-use Rattle.tb_ir.specs.Machine.{Env, Item, Cell, Obj, Clo, content_of}
+use Rattle.tb_core.specs.Store.{Object, Holds}
+use Rattle.tb_ir.specs.Machine.{Item, Cell, Obj, Clo, content_of}
 use Rattle.tb_ir.specs.Space.{closures_in, words_in, made}
 
 -- where the primitives see an object stands its item

@@ -1,5 +1,5 @@
 -- How the machine of values runs A-normal form.
-use Rattle.std.specs.Prelude.{ℕ, zero, suc, ◌+◌, ◌-◌, Bool, true, false, cond, ◌==◌, List, [], ◌∷◌, ◌++◌, length, take, drop, Option, Some, None, slice_get}
+use Rattle.std.specs.Prelude.{ℕ, ◌-◌, Bool, true, false, cond, ◌==◌, List, [], ◌∷◌, ◌++◌, length, take, Option, Some, None, slice_get}
 use Rattle.tb_prim.specs.declared.place.Place.{Place}
 use Rattle.tb_prim.specs.declared.event.Event.{Event}
 use Rattle.tb_semantics.specs.Runs.{Machine}
@@ -106,7 +106,7 @@ evaluate_cut captured c e r fs es = go c (Eval e (gather (free_code captured e) 
 abbrev pub run_branch : (ℕ → List ℕ) → AnfConfig → Value → Block → Block → Env → List Event → AnfState
 run_branch captured c v b d r es =
     cond (is_false v) (evaluate_cut captured c (InBlock d) r c.frames es)
-        (evaluate_cut captured c (InBlock b) r c.frames es)
+    (evaluate_cut captured c (InBlock b) r c.frames es)
 
 -- an operation whose environment is cut to it
 abbrev pub run_op : (ℕ → List ℕ) → AnfConfig → Op → Env → List Event → AnfState
@@ -125,7 +125,7 @@ run_op captured c (Apply f l p) r es = with_values c (atom_values r (f ∷ l ∷
 run_op captured c (Branch a b d) r es =
     with_value c (atom_value r a) es (λ v.
     cond (is_false v) (evaluate_cut captured c (InBlock d) r c.frames es)
-        (evaluate_cut captured c (InBlock b) r c.frames es))
+    (evaluate_cut captured c (InBlock b) r c.frames es))
 
 -- the operation of a `Bind` is evaluated above a frame with the variable and the block after it; procedures that
 -- are made together name one another

@@ -1,17 +1,14 @@
 -- Small programs written out as trees, and what it means that they are run. The node of a number stands in
 -- line 1, at the column of that number, so that a failure's place names its node.
-use Rattle.std.specs.Prelude.{◌≡◌, ℕ, zero, suc, pos, false, true, List, [], ◌∷◌, length, map, Option, Some, None}
-use Rattle.tb_prim.specs.declared.place.Place.{Place}
+use Rattle.std.specs.Prelude.{◌≡◌, ℕ, pos, false, true, List, [], ◌∷◌, length, Option, Some, None}
 use Rattle.tb_prim.specs.declared.constant.Const.{Const}
 use Rattle.tb_prim.specs.declared.constant.Static.{Static}
-use Rattle.tb_prim.specs.declared.constant.GlobalName.{GlobalName}
 use Rattle.tb_prim.specs.declared.event.Event.{Event}
 use Rattle.tb_prim.specs.declared.primitive.Primitive.{Primitive}
 use Rattle.tb_semantics.specs.Runs.{after}
 use Rattle.tb_core.specs.OperandOrder.{Line}
-use Rattle.tb_core.specs.Lifting.{Lifted}
 use Rattle.tb_core.specs.Examples.{spot, names}
-use Rattle.tb_ir.specs.Tree.{Tree, Node, Form, Quote, Local, Global, Lambda, If, NewCell, CellGet, CellSet, SetGlobal, DefGlobal, Let, Letrec, Seq, Call, Direct, PrimUse, Apply, Trees, none, more, LambdaTree, ProgramTree}
+use Rattle.tb_ir.specs.Tree.{Tree, Node, Form, Quote, Local, Global, Lambda, If, NewCell, CellGet, CellSet, DefGlobal, Let, Seq, Call, Direct, PrimUse, Apply, Trees, none, more, LambdaTree, ProgramTree}
 use Rattle.tb_ir.specs.AnfTree as A
 use Rattle.tb_ir.specs.AnfTree.{ProcTree, AnfTree}
 use Rattle.tb_ir.specs.Machine.{events_of}
@@ -141,7 +138,7 @@ abbrev pub shared_cell : Ordered
 shared_cell =
     program 0 (
     lambda_at 5 [] None (node 6 (CellSet (local 7 1) (letter 8 66))) ∷ lambda_at 9 [] None
-        (node 10 (CellGet (local 11 1))) ∷ []
+    (node 10 (CellGet (local 11 1))) ∷ []
     )
     (one (let_one 1 0 (letter 2 65) (let_one 3 1 (node 4 (NewCell (local 20 0))) (
     node 12 (Let (2 ∷ 3 ∷ []) (two (lambda 5 0) (lambda 9 1)) (sequence 13 (two
@@ -154,7 +151,7 @@ abbrev pub early_read : Ordered
 early_read =
     program 0 []
     (one (let_one 1 0 (node 2 (Quote Const.Undefined))
-        (let_one 3 1 (node 4 (NewCell (local 5 0))) (node 6 (CellGet (local 7 1))))))
+    (let_one 3 1 (node 4 (NewCell (local 5 0))) (node 6 (CellGet (local 7 1))))))
     (line 1 (0 ∷ []) ∷ [])
 
 -- (let ((y #\A)) (f #\B)), where f is the lambda expression (lambda (a) (begin (write-char y) (write-char a)))
@@ -236,7 +233,7 @@ abbrev pub mutual_closures : AnfTree
 mutual_closures =
     anf (
     form_proc (A.Bind 0 (A.Atom (char 66))
-        (A.CloseAll (1 ∷ 2 ∷ []) (0 ∷ 1 ∷ []) (A.Tail (A.Call (var 1) [] (spot 3))))) ∷
+    (A.CloseAll (1 ∷ 2 ∷ []) (0 ∷ 1 ∷ []) (A.Tail (A.Call (var 1) [] (spot 3))))) ∷
     proc_at 0 [] (2 ∷ []) (A.Tail (A.Call (var 2) [] (spot 4))) ∷
     proc_at 1 [] (0 ∷ 1 ∷ []) (A.Tail (A.Branch (A.Quote (Const.Bool true))
     (A.Tail (A.PrimUse Primitive.WriteChar (var 0 ∷ []) (spot 5)))
@@ -273,6 +270,6 @@ anf_loop = record {
       proc_at 0 (2 ∷ []) [] (A.Bind 3 (A.PrimUse Primitive.NumEq (var 2 ∷ A.Quote (Const.Fix (pos 0)) ∷ []) (spot 3)) (
       A.Tail (A.Branch (var 3) (A.Tail (A.Atom (A.Quote (Const.Fix (pos 0))))) (
       A.Bind 4 (A.Global 0 (spot 4))
-          (A.Bind 5 (A.PrimUse Primitive.Sub (var 2 ∷ A.Quote (Const.Fix (pos 1)) ∷ []) (spot 5)) (
+      (A.Bind 5 (A.PrimUse Primitive.Sub (var 2 ∷ A.Quote (Const.Fix (pos 1)) ∷ []) (spot 5)) (
       A.Tail (A.Call (var 4) (var 5 ∷ []) (spot 6)))))))) ∷ [];
 }

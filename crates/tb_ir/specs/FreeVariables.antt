@@ -1,5 +1,5 @@
 -- Free variables of the core language with cells.
-use Rattle.std.specs.Prelude.{ℕ, suc, List, [], ◌∷◌, ◌++◌, Bool, cond, ◌==◌}
+use Rattle.std.specs.Prelude.{ℕ, suc, List, [], ◌∷◌, ◌++◌, cond, ◌==◌}
 use Rattle.tb_core.specs.FreeVariables.{without, of_lambdas}
 use Rattle.tb_core.specs.FirstUses.{first_of}
 use Rattle.tb_core.specs.Lifting.{Lifted}
@@ -54,7 +54,7 @@ abbrev pub lambdas_free : List Lifted → List LambdaTree → ℕ → ℕ → Li
 lambdas_free set [] first l = []
 lambdas_free set (m ∷ ms) first l =
     cond (first == l) (lambda_free (lambdas_free set ms (suc first)) (added_to set l) m)
-        (lambdas_free set ms (suc first) l)
+    (lambdas_free set ms (suc first) l)
 
 -- the free variables of the lambda expressions of a program
 abbrev pub inner_free : ProgramTree → ℕ → List ℕ

@@ -2,7 +2,7 @@
 -- machine, but variables hold values, and a variable that is assigned is a cell. It knows of a language how its
 -- codes are evaluated and what they name, what a frame of its own does with a value, and its procedures and
 -- top-level forms; the rest stands here once for all of them. No code runs it; contracts cite it.
-use Rattle.std.specs.Prelude.{ℕ, suc, ◌+◌, Bool, true, false, cond, ◌==◌, nat_le, List, [], ◌∷◌, ◌++◌, map, length, take, drop, replicate, Option, Some, None, slice_get, slice_set}
+use Rattle.std.specs.Prelude.{ℕ, suc, Bool, true, false, cond, ◌==◌, nat_le, List, [], ◌∷◌, ◌++◌, map, length, take, drop, replicate, Option, Some, None, slice_get, slice_set}
 use Rattle.tb_prim.specs.declared.place.Place.{Place}
 use Rattle.tb_prim.specs.declared.constant.Static.{Static}
 use Rattle.tb_prim.specs.declared.constant.GlobalName.{GlobalName}
@@ -283,7 +283,7 @@ abbrev pub enter_body : {C W : Type 0} → Language C W → Config C W → Optio
 enter_body x c None vs r es = Lost c es
 enter_body x c (Some q) vs r es =
     cond (takes (length q.formals) q.rest (length vs)) (bind_parameters x c q q.rest vs r es)
-        (fail c Cause.WrongArgs q.place es)
+    (fail c Cause.WrongArgs q.place es)
 
 -- the body of a lambda expression that is lifted runs with its parameters and the variables added to them
 abbrev pub enter_lifted_body : {C W : Type 0} → Language C W → Config C W → Option (Procedure C) → List Value →
@@ -291,7 +291,7 @@ abbrev pub enter_lifted_body : {C W : Type 0} → Language C W → Config C W �
 enter_lifted_body x c None vs es = Lost c es
 enter_lifted_body x c (Some q) vs es =
     cond (length (q.formals ++ q.added) == length vs)
-        (go c (eval x q.body (bind_all (q.formals ++ q.added) vs Empty)) c.frames es)
+    (go c (eval x q.body (bind_all (q.formals ++ q.added) vs Empty)) c.frames es)
     (fail c Cause.WrongArgs q.place es)
 
 abbrev pub enter_item : {C W : Type 0} → Language C W → Config C W → Option Item → List Value → List Event → State C W

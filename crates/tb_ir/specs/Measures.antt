@@ -1,5 +1,5 @@
 -- The machine of values with what its states hold, which is what a pass keeps.
-use Rattle.std.specs.Prelude.{ℕ, Bool, false, List, length}
+use Rattle.std.specs.Prelude.{ℕ, false, List, length}
 use Rattle.tb_prim.specs.declared.constant.Static.{Static}
 use Rattle.tb_prim.specs.declared.constant.GlobalName.{GlobalName}
 use Rattle.tb_prim.specs.declared.event.Event.{Event}

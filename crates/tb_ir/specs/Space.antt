@@ -2,9 +2,9 @@
 -- that can be reached, and the words of the globals and of all other items that are static or can be reached.
 use Rattle.std.specs.Prelude.{ℕ, ◌+◌, Bool, true, false, List, [], ◌∷◌, ◌++◌, length, Option, Some, None, slice_get}
 use Rattle.tb_semantics.specs.Graph.{Graph, below, total}
-use Rattle.tb_core.specs.Store.{Value, At, object_size}
+use Rattle.tb_core.specs.Store.{Value, object_size}
 use Rattle.tb_core.specs.Space.{value_locations, values_locations, object_locations}
-use Rattle.tb_ir.specs.Machine.{Env, Item, Cell, Obj, Clo, Callee, Closure, Lifted, Control, Eval, Bound, Val, Entering, Work, Top, Own, Frame, Config, State, Language, config_of}
+use Rattle.tb_ir.specs.Machine.{Item, Cell, Obj, Clo, Callee, Closure, Lifted, Control, Eval, Bound, Val, Entering, Work, Top, Own, Frame, Config, State, Language, config_of}
 use Rattle.tb_ir.specs.TreeMachine.{env_values}
 
 -- how many frames are marked

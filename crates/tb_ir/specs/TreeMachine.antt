@@ -1,17 +1,17 @@
 -- How the machine of values runs the core language with cells, and with lambda expressions that are lifted. The
 -- rules are those of the reference machine, under any order of the operands.
-use Rattle.std.specs.Prelude.{ℕ, zero, suc, ◌+◌, ◌-◌, not, Bool, true, false, cond, ◌==◌, List, [], ◌∷◌, ◌++◌, filter, map, length, drop, Option, Some, None, slice_get}
+use Rattle.std.specs.Prelude.{ℕ, zero, suc, ◌-◌, not, Bool, true, false, cond, ◌==◌, List, [], ◌∷◌, ◌++◌, filter, map, length, drop, Option, Some, None, slice_get}
 use Rattle.tb_prim.specs.declared.place.Place.{Place}
 use Rattle.tb_prim.specs.declared.event.Event.{Event}
 use Rattle.tb_semantics.specs.Runs.{Machine}
 use Rattle.tb_core.specs.FreeVariables.{without}
 use Rattle.tb_core.specs.OperandOrder.{Line}
-use Rattle.tb_core.specs.Store.{Value, At, value_of}
+use Rattle.tb_core.specs.Store.{Value, value_of}
 use Rattle.tb_core.specs.Effects.{is_false}
 use Rattle.tb_core.specs.Reference.{arranged}
 use Rattle.tb_ir.specs.Tree.{Tree, Node, Form, Quote, Local, Global, Lambda, If, NewCell, CellGet, CellSet, SetGlobal, DefGlobal, Let, Letrec, Seq, Call, Direct, PrimUse, Apply, Trees, none, more, count, tree_at, operands, LambdaTree, ProgramTree}
 use Rattle.tb_ir.specs.FreeVariables.{free, free_form, free_all, inner_free, added_to, captured}
-use Rattle.tb_ir.specs.Machine.{Env, Config, State, Lost, Frame, Bound, Val, Procedure, Language, lookup, gather, bind_all, go, go_with, push, read_value, give_value, make_closure, make_closures, new_cell, get_cell, set_cell, enter, enter_lifted, apply, use_primitive, assign_global, set_global, Eval, machine_of}
+use Rattle.tb_ir.specs.Machine.{Env, Config, State, Lost, Frame, Val, Procedure, Language, lookup, gather, bind_all, go, push, read_value, give_value, make_closure, make_closures, new_cell, get_cell, set_cell, enter, enter_lifted, apply, use_primitive, assign_global, set_global, Eval, machine_of}
 
 -- what waits for a value: the arms of an `if`; a global that is assigned or defined, with the place; the rest of
 -- a sequence; a node with operands that are being evaluated, with the values so far in the order of its line

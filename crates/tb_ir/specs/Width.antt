@@ -5,7 +5,7 @@ use Rattle.tb_core.specs.OperandOrder.{Line}
 use Rattle.tb_core.specs.Lifting.{Lifted}
 use Rattle.tb_core.specs.Width.{largest, squares, widths_of_lambdas}
 use Rattle.tb_ir.specs.Tree.{Tree, Node, Form, Quote, Local, Global, Lambda, If, NewCell, CellGet, CellSet, SetGlobal, DefGlobal, Let, Letrec, Seq, Call, Direct, PrimUse, Apply, Trees, none, more, LambdaTree, ProgramTree}
-use Rattle.tb_ir.specs.FreeVariables.{parameters, added_to}
+use Rattle.tb_ir.specs.FreeVariables.{parameters}
 use Rattle.tb_ir.specs.TreeMachine.{line_of}
 
 -- whether an expression makes a cell

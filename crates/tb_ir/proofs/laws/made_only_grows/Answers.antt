@@ -1,4 +1,4 @@
-use Rattle.std.proofs.Common.{◌≤◌, ◌+◌, subst, sym}
+use Rattle.std.proofs.Common.{◌≤◌, subst, sym}
 use Rattle.tb_semantics.specs.Runs.{after}
 use Rattle.tb_semantics.proofs.RunLaws.{run-add}
 use Rattle.tb_ir.specs.Space.{made_of}
