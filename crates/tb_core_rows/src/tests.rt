@@ -178,7 +178,7 @@ fn order_of_operands(rt: HostRuntime) -> Result<(), Fail> {
     let order = operand_order(rt.alloc(), &program)?;
     let lines = order.as_slice();
     assert_eq!(rt; lines.len(), 3);
-    let wants: [(u32, &[usize]); 3] = [(1, &[0]), (14, &[1, 0]), (22, &[0])];
+    let wants: [(u32, &[u16]); 3] = [(1, &[0]), (14, &[1, 0]), (22, &[0])];
     for (line, (column, want)) in lines.iter().zip(&wants) {
         assert_eq!(rt; line.place, spot(*column));
         assert_eq!(rt; line.order.as_slice(), *want);
