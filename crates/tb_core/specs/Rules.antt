@@ -8,7 +8,6 @@ use Rattle.tb_core.specs.Tree.{Tree, Node, Form, Quote, Local, Global, Lambda, I
 use Rattle.tb_core.specs.FreeVariables.{is_in, is_assigned, free_all, inner_free}
 use Rattle.tb_core.specs.OperandOrder.{Line, order_of}
 use Rattle.tb_prim.specs.Fixnums.{is_fixnum}
-
 pub use Rattle.tb_core.specs.Variables.{bound, bound_form, bound_all, bound_in_lambdas, variables}
 
 -- a fact about each element of a list

@@ -238,12 +238,7 @@ struct Walk<'a> {
 /// answers want of memory at a node below.
 #[cycle(lines)]
 #[tactic(auto, using(crate::proofs::Views::viewing))]
-fn put_lines(
-    walk: Walk,
-    levels: u32,
-    out: &mut Vec<OrderLine>,
-    expr: &Expr,
-) -> Result<(), NoMemory>
+fn put_lines(walk: Walk, levels: u32, out: &mut Vec<OrderLine>, expr: &Expr) -> Result<(), NoMemory>
     requires { levels ≤ 1000 }
     ensures { OnOk result (map view_line out.new.items ≡ map view_line out.old.items ++ orders.lines (marks walk.entry) (lines_inside walk.entry) (view expr.now)) }
 {

@@ -12,8 +12,8 @@ use super::scope::{Slot, find_slot, inner_scope};
 use super::size::{operand_count, slot_behind};
 use std::alloc::Global;
 use tb_core::{Core, Expr, VarId};
-use tb_small_mac::Instr;
 use tb_prim::{NoMemory, Place, Prim};
+use tb_small_mac::Instr;
 
 /// Puts the code of the expression, which leaves its value in RESULT. The variables have the slots of the scope,
 /// and the slots from `depth` on are free.

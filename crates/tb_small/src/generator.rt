@@ -7,8 +7,8 @@ ghost use Rattle.tb_small.specs.Ranges.{HasBits};
 
 use super::size::size;
 use tb_core::{Core, Expr};
-use tb_small_mac::{Instr, PlaceEntry};
 use tb_prim::{Const, NoMemory, Place, Prim};
+use tb_small_mac::{Instr, PlaceEntry};
 
 /// The number of the register RESULT.
 pub const RESULT: u8 = 16;

@@ -10,8 +10,8 @@ use super::generator::{Output, put};
 use super::size::all_nodes;
 use std::alloc::Global;
 use tb_core::Expr;
-use tb_small_mac::{Instr, LiveMap, MacCode, Parts};
 use tb_prim::{NoMemory, Row};
+use tb_small_mac::{Instr, LiveMap, MacCode, Parts};
 
 /// A map for each of so many instructions. No instruction of this stage needs to know what is live, so that
 /// no map says it.
