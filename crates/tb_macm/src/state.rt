@@ -319,7 +319,7 @@ impl State {
         ensures { Does (global_set (code_of code.now) a x (mac_of self.old)) (mac_of self.old) (mac_of self.new) result }
     {
         match self.heap_word(x as usize) {
-            Some(Word::Special(4)) => self.fail(code, Cause::Undefined),
+            Some(Word::Special(number)) if number == 4 => self.fail(code, Cause::Undefined),
             Some(_) => self.set_word(x as usize, self.registers[a as usize]),
             None => self.stuck(),
         }
