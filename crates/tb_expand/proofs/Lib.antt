@@ -9,3 +9,4 @@ pub mod Rows
 pub mod Reading
 pub mod Counts
 pub mod Items
+pub mod Scanning

@@ -21,11 +21,15 @@ use Rattle.tb_expand.specs.declared.definition.Target.{Target as TargetCode}
 use Rattle.tb_expand.specs.declared.definition.Defined.{Defined as DefinedCode}
 use Rattle.tb_expand.specs.declared.definition.Defined.TheVariants as defined
 use Rattle.tb_expand.specs.declared.definition.Definition.{Definition as DefinitionCode}
+use Rattle.tb_prim.specs.declared.place.Place.{Place}
+use Rattle.tb_expand.specs.declared.context.Context.{Context}
+use Rattle.tb_expand.specs.declared.scan.Found.{Found as FoundCode}
+use Rattle.tb_expand.specs.calls.Scanned.{Lists, with_one}
 use Rattle.tb_expand.specs.declared.definition.Kind.{Kind as KindCode}
 use Rattle.tb_expand.specs.declared.definition.Kind.TheVariants as kind
 use Rattle.tb_expand.specs.Bodies as body
-use Rattle.tb_expand.specs.Bodies.{Kind}
-use Rattle.tb_expand.specs.Shapes.{Formals, Pair, Pairs, Target, Defined, Value, Procedure, Definition}
+use Rattle.tb_expand.specs.Bodies.{Kind, defined_in}
+use Rattle.tb_expand.specs.Shapes.{Formals, Pair, Pairs, Target, Defined, Value, Procedure, Definition, definition_of}
 use Rattle.tb_expand.specs.declared.expression.Build.{Build as BuildCode}
 use Rattle.tb_expand.specs.declared.expression.Build.TheVariants as build
 use Rattle.tb_expand.specs.declared.expression.Expression.{Expression as ExpressionCode}
@@ -42,7 +46,7 @@ use Rattle.tb_expand.specs.Expressions.{Build, Choosing, ChoosingOne, AssigningL
 use Rattle.tb_expand.specs.declared.shapes.Counted.{Counted}
 use Rattle.tb_expand.specs.declared.shapes.Counted.TheVariants as behind
 use Rattle.tb_expand.specs.Names.{Name, Binder}
-use Rattle.tb_expand.specs.Scopes.{Scope, State}
+use Rattle.tb_expand.specs.Scopes.{Scope, State, fresh}
 use Rattle.tb_expand.specs.Words.{Meaning, Variable, Special, Integrated, Plain}
 use Rattle.tb_expand.specs.Trees.{Var, Node, At, Core, Constant, Unspecified, Undefined, Local, Global, Lambda, If, SetLocal, SetGlobal, DefGlobal, Let, Letrec, Seq, Call, PrimUse, Apply, Nodes, nil, cons}
 
@@ -230,3 +234,23 @@ abbrev pub view_kind : KindCode → Kind
 view_kind kind.Expression = body.Expression
 view_kind (kind.Defining p ds) = body.Defining p (data_of ds.now)
 view_kind (kind.Beginning p ds) = body.Beginning p (data_of ds.now)
+
+abbrev pub view_lists : FoundCode → Lists
+view_lists f = record {
+  variables = map view_variable f.variables.items;
+  binders = map view_binder f.binders.items;
+  values = map view_defined f.values.items;
+}
+
+-- a definition that was found
+pub record Defines (st : State) (c : Context) (p : Place) (es : datum.Trees) (l : Lists) (s : ℕ) (st' : State) (l' : Lists) : Type 0 where
+  pub definition : Definition
+  pub parts : definition_of p es ≡ Some definition
+  pub scope_is : s ≡ fresh st
+  pub entered : st' ≡ defined_in st c definition
+  pub lists : l' ≡ with_one (fresh st) definition l
+
+-- the refusal of what is no definition
+pub record NoDefinition (p : Place) (es : datum.Trees) (r : Refusal) : Type 0 where
+  pub parts : definition_of p es ≡ None
+  pub refusal_is : r ≡ BadForm p

@@ -11,6 +11,7 @@ mod laws;
 mod limits;
 mod name;
 mod refusal;
+mod scan;
 mod shapes;
 mod state;
 mod tree;
@@ -26,6 +27,7 @@ pub use form::Form;
 pub use laws::{one_answer_a_datum, one_answer_a_text};
 pub use name::{Name, Variable};
 pub use refusal::ExpandRefusal;
+pub use scan::{Found, scan_items};
 pub use shapes::{
     Binder, Counted, Formals, Pair, behind, binder_of, binders_of, elements_of, formals_of,
     pairs_of,
