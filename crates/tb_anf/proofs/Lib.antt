@@ -1,0 +1,17 @@
+pub mod Environments
+pub mod Names
+pub mod Rel
+pub mod Operands
+pub mod Advance
+pub mod States
+pub mod Arranged
+pub mod Uses
+pub mod Roots
+pub mod Shape
+pub mod Blocks
+pub mod Nodes
+pub mod Parts
+pub mod Procs
+pub mod Moves
+pub mod Given
+pub mod Finished

@@ -124,24 +124,24 @@ module _ (p : ProgramTree) (rules : KeepsRules p) where
   variable-small y i = every_at (λ x. x < 2 ^ 24) (variables p) y rules.small_variables i
 
   of_lambda : (m : ℕ) (l : LambdaTree) (y : ℕ) → slice_get p.lambdas m ≡ Some l →
-      IsIn y (parameters l ++ bound l.body) → y < 2 ^ 24
-  of_lambda m l y e i = variable-small y (in-right y (bound_all p.forms) _ (lambda-bound p.lambdas m l y e i))
+      IsIn y (parameters l ++ bound l.body) → IsIn y (variables p)
+  of_lambda m l y e i = in-right y (bound_all p.forms) _ (lambda-bound p.lambdas m l y e i)
 
-  small_below : (b n : ℕ) → n < b → AreSmall (inner_free p n)
-  small_below zero n lt y i = absurd (omega arith)
-  small_below (suc b) n lt y i =
+  known_below : (b n : ℕ) → n < b → (y : ℕ) → IsIn y (inner_free p n) → IsIn y (variables p)
+  known_below zero n lt y i = absurd (omega arith)
+  known_below (suc b) n lt y i =
       ⊎_elim
       (λ inside.
       let stands = in-tested (standing p) n (rules.lambdas_at_least_once n inside) in
       ⊎_elim
       (λ j. ⊎_elim (λ f. absurd (subst (IsIn y) rules.in_scope f))
-      (λ m. variable-small y (in-left y (bound_all p.forms) _ m)) (held-trees (inner_free p) n y i p.forms j))
+      (λ m. in-left y (bound_all p.forms) _ m) (held-trees (inner_free p) n y i p.forms j))
       (λ j. let k = within-lambdas p.lambdas 0 n rules.inner_greater j in
       let less = k.4 in
       ⊎_elim
       (λ f. ⊎_elim
       (λ t. of_lambda k.0 k.1 y k.2 (in-left y (parameters k.1) _ (in-tested (parameters k.1) y t)))
-      (λ o. small_below b k.0 (omega arith) y
+      (λ o. known_below b k.0 (omega arith) y
       (subst (IsIn y) (sym (free-of-lambda p k.0 k.1 rules.inner_greater k.2))
       (in-without (parameters k.1) (free (inner_free p) (k.1).body) y f o)))
       (cases_Bool (is_in (parameters k.1) y)))
@@ -152,14 +152,18 @@ module _ (p : ProgramTree) (rules : KeepsRules p) where
       (cases_lt n (length p.lambdas))
 
   pub inner-small : (n : ℕ) → AreSmall (inner_free p n)
-  inner-small n = small_below (suc n) n (omega arith)
+  inner-small n y i = variable-small y (known_below (suc n) n (omega arith) y i)
 
   -- what the body of a lambda expression names
-  pub body-small : (m : ℕ) (l : LambdaTree) → slice_get p.lambdas m ≡ Some l → AreSmall (free (inner_free p) l.body)
-  body-small m l e y i =
+  pub body-known : (m : ℕ) (l : LambdaTree) → slice_get p.lambdas m ≡ Some l → (y : ℕ) →
+      IsIn y (free (inner_free p) l.body) → IsIn y (variables p)
+  body-known m l e y i =
       ⊎_elim
       (λ t. of_lambda m l y e (in-left y (parameters l) _ (in-tested (parameters l) y t)))
-      (λ o. inner-small m y
+      (λ o. known_below (suc m) m (omega arith) y
       (subst (IsIn y) (sym (free-of-lambda p m l rules.inner_greater e))
       (in-without (parameters l) (free (inner_free p) l.body) y i o)))
       (cases_Bool (is_in (parameters l) y))
+
+  pub body-small : (m : ℕ) (l : LambdaTree) → slice_get p.lambdas m ≡ Some l → AreSmall (free (inner_free p) l.body)
+  body-small m l e y i = variable-small y (body-known m l e y i)

@@ -23,3 +23,17 @@ pub mod Sites
 pub mod ReadyFrom
 pub mod Named
 pub mod AllNamed
+pub mod Views
+pub mod CodeLists
+pub mod Counts
+pub mod Weights
+pub mod Standing
+pub mod OwnLines
+pub mod Widths
+pub mod VariablesApart
+pub mod SitesApart
+pub mod Scopes
+pub mod FewNodes
+pub mod FreshNames
+pub mod CellsBound
+pub mod NodesKept

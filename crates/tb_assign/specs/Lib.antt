@@ -1,2 +1,3 @@
 pub mod Eliminate
 pub mod Examples
+pub mod calls

@@ -48,9 +48,7 @@ pub fn worked_shapes()
         ≡ (0 ∷ 1 ∷ 1 ∷ 1 ∷ []) ∷ (1 ∷ 1 ∷ 1 ∷ 1 ∷ []) ∷ (1 ∷ 1 ∷ 1 ∷ 1 ∷ []) ∷ (1 ∷ 1 ∷ 1 ∷ 1 ∷ []) ∷ [] }
 {}
 
-/// The programs keep the rules of their types, and their orders are orders for them; and some that do not: a
-/// direct call of a lambda expression that is not lifted, a variable that is named beside its cell, and a cell of
-/// a variable that another body binds.
+/// The programs keep the rules of their types, and their orders are orders for them.
 pub fn worked_rules()
     ensures tail_loop { KeepsRules (2 ^ 27) tail_loop.tree × IsOrderOf tail_loop.tree tail_loop.order }
     ensures deep { KeepsRules (2 ^ 27) deep.tree × IsOrderOf deep.tree deep.order }
