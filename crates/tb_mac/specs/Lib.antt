@@ -4,6 +4,7 @@ pub mod Layout
 pub mod Rules
 pub mod Effects
 pub mod Assembled
+pub mod Assemble
 pub mod MacStep
 pub mod Frames
 pub mod LiveWords

@@ -6,6 +6,7 @@ mod code;
 pub mod examples;
 mod fields;
 mod immediate;
+mod item;
 pub mod laws;
 mod lookup;
 mod numbers;
@@ -18,6 +19,7 @@ pub use code::{
 };
 pub use fields::instr_ok;
 pub use immediate::{immediate_bits, immediate_word};
+pub use item::Item;
 pub use lookup::{fetch, place_of};
 pub use numbers::primitive_at;
 pub use word::{Placed, Word, is_false, same_word};
