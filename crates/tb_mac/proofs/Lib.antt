@@ -1,4 +1,6 @@
 pub mod RuleLaws
+pub mod LabelLemmas
+pub mod AssembleLemmas
 pub mod BoundLaws
 pub mod FrameLaws
 pub mod FramedRunLaws

@@ -92,8 +92,11 @@ abbrev pub targets : List Instr → List ℕ
 targets [] = []
 targets (i ∷ is) = target i ++ targets is
 
+abbrev pub entry_labels : List LambdaEntry → List ℕ
+entry_labels ls = map (λ (l : LambdaEntry). l.entry) ls
+
 abbrev pub named_labels : Parts → List Item → List ℕ
-named_labels parts items = targets (instructions items) ++ map (λ (l : LambdaEntry). l.entry) parts.lambdas
+named_labels parts items = targets (instructions items) ++ entry_labels parts.lambdas
 
 -- the first label that stood before
 pub record IsTwice (items : List Item) (l : ℕ) : Type 0 where

@@ -5,6 +5,7 @@ pub mod Rules
 pub mod Effects
 pub mod Assembled
 pub mod Assemble
+pub mod Refused
 pub mod MacStep
 pub mod Frames
 pub mod LiveWords
