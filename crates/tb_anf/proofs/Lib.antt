@@ -1,5 +1,6 @@
 pub mod Environments
 pub mod Names
+pub mod Calls
 pub mod Rel
 pub mod Operands
 pub mod Advance
