@@ -72,7 +72,7 @@ simple_free : (I : ℕ → List ℕ) {e : Tree} {a : Operand} (y : ℕ) → Simp
 simple_free I y (constant c) i = absurd i
 simple_free I y (variable z) i = i
 
-own_name : (n : ℕ) (e : Tree) → IsIn (value_name n) (names n e)
+pub own_name : (n : ℕ) (e : Tree) → IsIn (value_name n) (names n e)
 own_name n (Node p s f) = inl refl
 
 atom_free : (line : ℕ → Option (List ℕ)) (I : ℕ → List ℕ) (n : ℕ) (e : Tree) (y : ℕ) → Kind line n e →

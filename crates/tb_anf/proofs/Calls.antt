@@ -1,5 +1,5 @@
 -- Which lambda expressions the nodes of a program make procedures of and enter, and that their bodies may run.
-use Rattle.std.proofs.Common.{◌≡◌, ℕ, ◌⊎◌, false, List, [], None}
+use Rattle.std.proofs.Common.{◌≡◌, ℕ, ◌⊎◌, false, [], None}
 use Rattle.tb_semantics.specs.Graph.{IsIn}
 use Rattle.tb_core.specs.FreeVariables.{is_in}
 use Rattle.tb_core.specs.Rules.{Every}

@@ -16,3 +16,7 @@ pub mod Procs
 pub mod Moves
 pub mod Given
 pub mod Finished
+pub mod Weights
+pub mod Turns
+pub mod Evaluates
+pub mod Groups

@@ -39,7 +39,7 @@ module _ (p : ProgramTree) (order : List Line) (taken : ℕ → List ℕ) where
   abbrev pub x : T.Context
   x = T.context_of p order
 
-  begins-related : (h : Ground) (m q r : Env) (e : Tree) (w : TreeWork) (fs : Frames) (b : Block) (ts : AnfFrames)
+  pub begins-related : (h : Ground) (m q r : Env) (e : Tree) (w : TreeWork) (fs : Frames) (b : Block) (ts : AnfFrames)
       (es : List Event) → Begins x (Calls p) taken m e w fs b ts → Named (free x.inner e) q m →
       r ≡ gather (free_block taken b) m → Stored x (Calls p) h.store →
       Related p order taken (Running (at h (Eval (InBlock b) r) ts) es)
