@@ -20,3 +20,5 @@ pub mod Weights
 pub mod Turns
 pub mod Evaluates
 pub mod Groups
+pub mod OperandMoves
+pub mod Gives

@@ -50,7 +50,7 @@ module _ (p : ProgramTree) (order : List Line) (input : List ℕ) where
   fewer l y i = captured-free p l y (subst (IsIn y) (same-captured p order l) i)
 
   -- nothing is left for the target alone once it is at an operation
-  put_pending : (c : N.AnfConfig) (k : After) (op : Op) (r : Env) (es : List Event) →
+  pub put_pending : (c : N.AnfConfig) (k : After) (op : Op) (r : Env) (es : List Event) →
       pending (N.run_block taken c (put k op) r es) ≡ 0
   put_pending c AtEnd op r es = refl
   put_pending c (Then y b) op r es = refl

@@ -33,7 +33,7 @@ module _ (line : ℕ → Option (List ℕ)) where
   work_weight (SetGlo g defines p) = 0
   work_weight (Rest es r) = 2 * size_all es
   work_weight (Args p s f vs r) =
-      2 * (sizes_at (operands f) (drop (length vs) (numbers (line s) f)) + size_of_body f)
+      2 * (sizes_at (operands f) (drop (suc (length vs)) (numbers (line s) f)) + size_of_body f)
 
   abbrev pub any_weight : Work TreeWork → ℕ
   any_weight (Top k) = 0
