@@ -33,10 +33,11 @@ pub record MayClose (p : ProgramTree) (l : ℕ) : Type 0 where
   pub grounded : Grounded p l
   pub not_lifted : added_to p.set l ≡ []
 
--- it is entered without a procedure: it has no rest parameter
+-- it is entered without a procedure: it has no rest parameter, and names none but its parameters and those added
 pub record MayEnter (p : ProgramTree) (l : ℕ) : Type 0 where
   pub grounded : Grounded p l
   pub no_rest : (m : LambdaTree) → IsLambda p l m → m.rest ≡ None
+  pub closed : inner_free p l ≡ []
 
 -- the same of the lambda expressions of a node
 abbrev pub Calls : ProgramTree → Form → Type 0

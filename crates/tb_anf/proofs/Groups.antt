@@ -10,7 +10,7 @@ use Rattle.tb_core.specs.Rules.{Every}
 use Rattle.tb_core.specs.Space.{values_locations}
 use Rattle.tb_core.specs.Store.{At}
 use Rattle.tb_core.proofs.Members.{in-left, in-right, in-either}
-use Rattle.tb_ir.specs.Tree.{Tree, Node, Letrec, ProgramTree}
+use Rattle.tb_ir.specs.Tree.{Tree, Node, Form, Letrec, ProgramTree}
 use Rattle.tb_ir.specs.FreeVariables.{free, free_form}
 use Rattle.tb_ir.specs.Machine.{Env, Item, Clo, Eval, Bound, Running, gather, bind_located, closures}
 use Rattle.tb_ir.specs.Space.{frames_locations}
@@ -39,6 +39,11 @@ located-roots [] k q r P h l i = h l i
 located-roots (x ∷ xs) k q r P h l (inl e) = inl (inl e)
 located-roots (x ∷ xs) k q r P h l (inr i) = ⊎_elim (λ z. inl (inr z)) inr (located-roots xs (suc k) q r P h l i)
 
+pub stored-append : (x : T.Context) (calls : Form → Type 0) (st is : List Item) → Stored x calls st → Stored x calls is →
+    Stored x calls (st ++ is)
+stored-append x calls [] is s h = h
+stored-append x calls (i ∷ st) is s h = (s.0, stored-append x calls st is s.1 h)
+
 module _ (p : ProgramTree) (order : List Line) (input : List ℕ) where
   abbrev x : T.Context
   x = T.context_of p order
@@ -63,10 +68,6 @@ module _ (p : ProgramTree) (order : List Line) (input : List ℕ) where
       ∙ sym (named-gathers (n l (inl refl)))) in
       let rest = same-closures ls q r m (λ k i. g k (inr i)) (λ k i. n k (inr i)) in
       ap (λ z. Clo l z ∷ closures mine ls r) here ∙ ap (λ zs. Clo l (gather (x.captured l) q) ∷ zs) rest
-
-  stored-append : (st is : List Item) → Stored x (Calls p) st → Stored x (Calls p) is → Stored x (Calls p) (st ++ is)
-  stored-append [] is s h = h
-  stored-append (i ∷ st) is s h = (s.0, stored-append st is s.1 h)
 
   stored-closures : (ls : List ℕ) (q m : Env) → Every (MayClose p) ls →
       ((l : ℕ) → IsIn l ls → Named (x.captured l) q m) → Stored x (Calls p) (closures x.captured ls q)
@@ -121,7 +122,7 @@ module _ (p : ProgramTree) (order : List Line) (input : List ℕ) where
       (λ y i. nw y (in-right y xs _ i))
       (named-sub (λ y i. in-right y (of_lambdas x.inner ls) _ i) all)
       (alike (free_block mine b) (λ y i. in-right y (of_lambdas mine ls) _ i))
-      (stored-append h.store _ st (stored-closures ls q1 m1 so.here.may closed))
+      (stored-append x (Calls p) h.store _ st (stored-closures ls q1 m1 so.here.may closed))
       (record {
         marked = w.marked;
         roots = λ l i. ⊎_elim

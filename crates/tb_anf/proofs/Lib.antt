@@ -22,3 +22,4 @@ pub mod Evaluates
 pub mod Groups
 pub mod OperandMoves
 pub mod Gives
+pub mod Enters
