@@ -23,3 +23,4 @@ pub mod Groups
 pub mod OperandMoves
 pub mod Gives
 pub mod Enters
+pub mod Steps
