@@ -24,3 +24,6 @@ pub mod OperandMoves
 pub mod Gives
 pub mod Enters
 pub mod Steps
+pub mod TreeParts
+pub mod Apart
+pub mod Scopes
