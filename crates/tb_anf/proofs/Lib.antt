@@ -27,3 +27,5 @@ pub mod Steps
 pub mod TreeParts
 pub mod Apart
 pub mod Scopes
+pub mod Lines
+pub mod Variables
