@@ -29,3 +29,4 @@ pub mod Apart
 pub mod Scopes
 pub mod Lines
 pub mod Variables
+pub mod Bodies

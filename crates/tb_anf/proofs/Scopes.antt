@@ -128,7 +128,7 @@ greater_at (n ∷ ls) first zero l h e m i =
     omega arith
 greater_at (n ∷ ls) first (suc k) l h e m i = let j = greater_at ls (suc first) k l h.1 e m i in omega arith
 
-in-node : (has : Form → List ℕ) (ds : List Tree) → Every (λ d. (y : ℕ) → IsIn y (has (form_of d)) → IsIn y (of_nodes has ds)) ds
+pub in-node : (has : Form → List ℕ) (ds : List Tree) → Every (λ d. (y : ℕ) → IsIn y (has (form_of d)) → IsIn y (of_nodes has ds)) ds
 in-node has [] = tt
 in-node has (d ∷ ds) = (
   λ y i. in-left y (has (form_of d)) _ i,

@@ -83,7 +83,7 @@ one-body (k ∷ ls) (suc i) zero m l e f a y s t =
 one-body (k ∷ ls) (suc i) (suc j) m l e f a y s t =
     one-body ls i j m l e f (apart-right (own k.body) _ (subst IsApart (own_first k ls) a)) y s t
 
-own-form : (es : Trees) (k : ℕ) (e : Tree) → tree_at es k ≡ Some e → (y : ℕ) → IsIn y (own e) → IsIn y (own_of es)
+pub own-form : (es : Trees) (k : ℕ) (e : Tree) → tree_at es k ≡ Some e → (y : ℕ) → IsIn y (own e) → IsIn y (own_of es)
 own-form none k e t y i = cc
 own-form (more d es) zero e t y i =
     subst (IsIn y) (sym (own-more d es)) (in-left y (own d) _ (subst (λ z. IsIn y (own z)) (sym (same_Some d e t)) i))
