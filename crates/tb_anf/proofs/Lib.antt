@@ -30,3 +30,4 @@ pub mod Scopes
 pub mod Lines
 pub mod Variables
 pub mod Bodies
+pub mod Keeping

@@ -3,5 +3,6 @@
 #![tactic(auto)]
 
 mod examples;
+pub mod laws;
 
 pub use examples::worked_programs;
