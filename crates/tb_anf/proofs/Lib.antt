@@ -31,3 +31,4 @@ pub mod Lines
 pub mod Variables
 pub mod Bodies
 pub mod Keeping
+pub mod Operations

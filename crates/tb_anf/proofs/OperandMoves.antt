@@ -17,7 +17,7 @@ use Rattle.tb_ir.specs.Machine.{Env, Control, Eval, Val, Running, gather, push}
 use Rattle.tb_ir.specs.TreeMachine as T
 use Rattle.tb_ir.specs.TreeMachine.{Frames, TreeState, Args, env_values, line_of, numbers, free_of_numbers, free_of_body}
 use Rattle.tb_ir.specs.AnfMachine.{InBlock, AnfFrames, free_block}
-use Rattle.tb_anf.specs.NormalForm.{After, put, around, block_of}
+use Rattle.tb_anf.specs.NormalForm.{size, After, put, around, block_of}
 use Rattle.tb_anf.proofs.Arranged.{all-values, operand-count}
 use Rattle.tb_anf.proofs.Calls.{Calls}
 use Rattle.tb_anf.proofs.Environments.{Named, Values, named-sub}
@@ -29,7 +29,7 @@ use Rattle.tb_anf.proofs.Rel.{steps, operand_atoms, operation, finish, by-operan
 use Rattle.tb_anf.proofs.States.{Ground, at, Ready, Stored}
 use Rattle.tb_anf.proofs.Turns.{taken, Turns, fewer, put-moves, source-goes}
 use Rattle.tb_anf.proofs.Uses.{operation_named, some_atom, tree_there}
-use Rattle.tb_anf.proofs.Weights.{state_weight, weight-size, size_there, sizes_at, size_of_body, frames_weight, sizes-permuted, operands-size}
+use Rattle.tb_anf.proofs.Weights.{state_weight, weight-size, at_tree, sizes_at, size_of_body, frames_weight, sizes-permuted, operands-size}
 
 -- a `let`, or a node with an operation behind its operands
 pub data LetOrOther : Form → Type 0 where
@@ -89,7 +89,7 @@ module _ (p : ProgramTree) (order : List Line) (input : List ℕ) where
       let k : 2 * (sizes_at (operands f) (drop (suc (length vs)) (numbers (x.line s) f)) + size_of_body f) ≡ later =
       ap (λ ns. 2 * (sizes_at (operands f) ns + size_of_body f)) d in
       subst (λ o. state_weight (line_of order) (T.operand x c u s f vs q rest o fs es) <
-      2 * ((size_there o + sizes_at (operands f) rest) + size_of_body f) + frames_weight (line_of order) fs)
+      2 * ((at_tree size o + sizes_at (operands f) rest) + size_of_body f) + frames_weight (line_of order) fs)
       (sym t) (omega arith)
 
   -- what the operation of a node names is free in it, where no operand is before it

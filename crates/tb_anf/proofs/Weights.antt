@@ -9,13 +9,18 @@ use Rattle.tb_ir.specs.TreeMachine.{TreeWork, Sel, SetGlo, Rest, Args, Frames, T
 use Rattle.tb_anf.specs.NormalForm.{size, size_form, size_all}
 use Rattle.tb_anf.proofs.Names.{by_operands}
 
-abbrev pub size_there : Option Tree → ℕ
-size_there None = 0
-size_there (Some e) = size e
+-- a measure of expressions, at a number and summed over all
+abbrev pub at_tree : (Tree → ℕ) → Option Tree → ℕ
+at_tree m None = 0
+at_tree m (Some e) = m e
+
+abbrev pub sum_all : (Tree → ℕ) → Trees → ℕ
+sum_all m none = 0
+sum_all m (more e es) = m e + sum_all m es
 
 -- the sizes of the operands of these numbers
 abbrev pub sizes_at : Trees → List ℕ → ℕ
-sizes_at es ns = sum_of (λ i. size_there (tree_at es i)) ns
+sizes_at es ns = sum_of (λ i. at_tree size (tree_at es i)) ns
 
 abbrev pub size_of_body : Form → ℕ
 size_of_body (Let xs es e) = size e
@@ -62,13 +67,13 @@ later_numbers : (size_at : ℕ → ℕ) (i n : ℕ) →
 later_numbers size_at i zero = refl
 later_numbers size_at i (suc n) = ap (λ k. size_at (suc i) + k) (later_numbers size_at (suc i) n)
 
-pub sizes-written : (es : Trees) → sizes_at es (numbers_from 0 (count es)) ≡ size_all es
-sizes-written none = refl
-sizes-written (more e es) =
+pub sums-written : (m : Tree → ℕ) (es : Trees) →
+    sum_of (λ i. at_tree m (tree_at es i)) (numbers_from 0 (count es)) ≡ sum_all m es
+sums-written m none = refl
+sums-written m (more e es) =
     let z : 1 + count es ≡ suc (count es) = omega arith in
-    ap (λ n. sizes_at (more e es) (numbers_from 0 n)) z
-    ∙ ap (λ k. size e + k) (later_numbers (λ i. size_there (tree_at (more e es) i)) 0 (count es)
-    ∙ sizes-written es)
+    ap (λ n. sum_of (λ i. at_tree m (tree_at (more e es) i)) (numbers_from 0 n)) z
+    ∙ ap (λ k. m e + k) (later_numbers (λ i. at_tree m (tree_at (more e es) i)) 0 (count es) ∙ sums-written m es)
 
 pub in-numbers : (i n j : ℕ) → i ≤ j → j < i + n → IsIn j (numbers_from i n)
 in-numbers i zero j le lt = absurd (omega arith)
@@ -82,13 +87,25 @@ in-numbers i (suc n) j le lt =
     first_or_later (suc i) (suc j) le =
         ⊎_elim (λ e. inl (ap suc e)) (λ l. inr (omega arith)) (first_or_later i j (omega arith))
 
--- the operands of a node weigh no more than all of them, in any order
-pub sizes-permuted : (es : Trees) (ns : List ℕ) → IsPermutation ns (count es) → sizes_at es ns ≤ size_all es
-sizes-permuted es ns h =
-    let le = sum_by_partners (λ i j. i ≡ j) (λ i. size_there (tree_at es i)) (λ i. size_there (tree_at es i))
+-- a measure of the operands of a node is no more than that of all of them, in any order
+pub sums-permuted : (m : Tree → ℕ) (es : Trees) (ns : List ℕ) → IsPermutation ns (count es) →
+    sum_of (λ i. at_tree m (tree_at es i)) ns ≤ sum_all m es
+sums-permuted m es ns h =
+    let size_at = λ (i : ℕ). at_tree m (tree_at es i) in
+    let le = sum_by_partners (λ i j. i ≡ j) size_at size_at
     (λ i j k p q. p ∙ sym q) ns (numbers_from 0 (count es)) h.apart
     (λ i t. (i, in-numbers 0 (count es) i (omega arith) (let lt = h.within i t in omega arith), refl, omega arith)) in
-    let e = sizes-written es in
+    let e = sums-written m es in
+    omega arith
+
+all_sizes : (es : Trees) → sum_all size es ≡ size_all es
+all_sizes none = refl
+all_sizes (more e es) = ap (λ k. size e + k) (all_sizes es)
+
+pub sizes-permuted : (es : Trees) (ns : List ℕ) → IsPermutation ns (count es) → sizes_at es ns ≤ size_all es
+sizes-permuted es ns h =
+    let le = sums-permuted size es ns h in
+    let e = all_sizes es in
     omega arith
 
 pub operands-size : (f : Form) → by_operands f ≡ true → size_all (operands f) + size_of_body f ≤ size_form f
