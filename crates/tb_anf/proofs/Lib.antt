@@ -32,3 +32,5 @@ pub mod Variables
 pub mod Bodies
 pub mod Keeping
 pub mod Operations
+pub mod Tasks
+pub mod InScope
