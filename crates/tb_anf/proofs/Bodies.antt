@@ -23,19 +23,19 @@ use Rattle.tb_anf.proofs.Operands.{apart-both, free-at, nodes-at, every-left}
 use Rattle.tb_anf.proofs.Scopes.{every-in, in-node, IsScoped, scoped, free-of-lambda}
 use Rattle.tb_anf.proofs.Variables.{form-once, body-once, not-in-form, no-parameter, same-body, form-variable, body-variable, parameter-variable, own-form, body-nodes}
 
-every-zip : {X : Type 0} (P Q R : X → Type 0) (xs : List X) → ((x : X) → P x → Q x → R x) → Every P xs → Every Q xs →
+pub every-zip : {X : Type 0} (P Q R : X → Type 0) (xs : List X) → ((x : X) → P x → Q x → R x) → Every P xs → Every Q xs →
     Every R xs
 every-zip P Q R [] h a b = tt
 every-zip P Q R (x ∷ xs) h a b = (h x a.0 b.0, every-zip P Q R xs h a.1 b.1)
 
 -- nothing is added to a lambda expression that is not lifted
-added_none : (set : List Lifted) (l : ℕ) → (IsIn l (map (λ (m : Lifted). m.lambda) set) → ⊥) → added_to set l ≡ []
+pub added_none : (set : List Lifted) (l : ℕ) → (IsIn l (map (λ (m : Lifted). m.lambda) set) → ⊥) → added_to set l ≡ []
 added_none [] l h = refl
 added_none (m ∷ ms) l h =
     ⊎_elim (λ e. absurd (h (inl e))) (λ ne. rw (ne_eqb m.lambda l ne) (added_none ms l (λ i. h (inr i))))
     (cases_eq m.lambda l)
 
-lifted_found : (P : Lifted → Type 0) (set : List Lifted) (l : ℕ) → IsIn l (map (λ (m : Lifted). m.lambda) set) →
+pub lifted_found : (P : Lifted → Type 0) (set : List Lifted) (l : ℕ) → IsIn l (map (λ (m : Lifted). m.lambda) set) →
     Every P set → (m : Lifted) × (m.lambda ≡ l) × P m
 lifted_found P [] l i h = absurd i
 lifted_found P (m ∷ ms) l (inl e) h = (m, e, h.0)
@@ -50,16 +50,16 @@ added_named I zero (more (Node p s (Local z)) es) (x ∷ xs) y h (inr i) = inr (
 added_named I zero none [] y h i = absurd i
 added_named I k es xs y h i = absurd h
 
-long_shaped : (p : ProgramTree) (f : Form) → IsShaped p f → IsLong f
+pub long_shaped : (p : ProgramTree) (f : Form) → IsShaped p f → IsLong f
 long_shaped p (Let xs es e) h = h
 long_shaped p (Seq es) h = h
 long_shaped p _ h = tt
 
 -- what holds of each node of the program
-record Facts (p : ProgramTree) (order : List Line) (d : Tree) : Type 0 where
-  keeps : NodeKeeps (2 ^ 31) p d
-  lined : HasLine order p.set p.lambdas d
-  stands : (l : ℕ) → IsIn l (standing_at (form_of d)) → IsIn l (of_nodes standing_at (all_nodes p))
+pub record Facts (p : ProgramTree) (order : List Line) (d : Tree) : Type 0 where
+  pub keeps : NodeKeeps (2 ^ 31) p d
+  pub lined : HasLine order p.set p.lambdas d
+  pub stands : (l : ℕ) → IsIn l (standing_at (form_of d)) → IsIn l (of_nodes standing_at (all_nodes p))
 
 module _ (p : ProgramTree) (order : List Line) (rules : KeepsRules (2 ^ 31) p) (lines : IsOrderOf p order) where
   abbrev I : ℕ → List ℕ
@@ -68,7 +68,7 @@ module _ (p : ProgramTree) (order : List Line) (rules : KeepsRules (2 ^ 31) p) (
   abbrev x : T.Context
   x = T.context_of p order
 
-  all-facts : Every (Facts p order) (all_nodes p)
+  pub all-facts : Every (Facts p order) (all_nodes p)
   all-facts =
       every-zip _ _ _ (all_nodes p) (λ d a b. record { keeps = a.0; lined = a.1; stands = b })
       (every-zip (NodeKeeps (2 ^ 31) p) (HasLine order p.set p.lambdas)
@@ -76,7 +76,7 @@ module _ (p : ProgramTree) (order : List Line) (rules : KeepsRules (2 ^ 31) p) (
       (in-node standing_at (all_nodes p))
 
   -- a lambda expression that stands at a node is not lifted
-  not-lifted : (l : ℕ) → IsIn l (of_nodes standing_at (all_nodes p)) → added_to p.set l ≡ []
+  pub not-lifted : (l : ℕ) → IsIn l (of_nodes standing_at (all_nodes p)) → added_to p.set l ≡ []
   not-lifted l i = added_none p.set l (λ j. apart-both _ _ l rules.lambdas_at_most_once i j)
 
   pub inner : (l : ℕ) (m : LambdaTree) → IsLambda p l m →
@@ -99,7 +99,7 @@ module _ (p : ProgramTree) (order : List Line) (rules : KeepsRules (2 ^ 31) p) (
     the_lifted : (m : Lifted) × (m.lambda ≡ l) × LiftedKeeps p m
     the_lifted = lifted_found (LiftedKeeps p) p.set l (in-tested _ l c.is_lifted) rules.lifted
 
-    lifted_keeps : ((m : LambdaTree) → IsLambda p l m → m.rest ≡ None) × (I l ≡ []) × (l < length p.lambdas)
+    pub lifted_keeps : ((m : LambdaTree) → IsLambda p l m → m.rest ≡ None) × (I l ≡ []) × (l < length p.lambdas)
     lifted_keeps =
         let m = the_lifted in
         let k = m.2 in
@@ -109,7 +109,7 @@ module _ (p : ProgramTree) (order : List Line) (rules : KeepsRules (2 ^ 31) p) (
           subst (λ z. z < length p.lambdas) e k.in_range,
         )
 
-    its_lambda : (m : LambdaTree) × IsLambda p l m × AreAdded (length m.formals) es (added_to p.set l)
+    pub its_lambda : (m : LambdaTree) × IsLambda p l m × AreAdded (length m.formals) es (added_to p.set l)
     its_lambda = let g = get-some p.lambdas l lifted_keeps.2 in (g.0, g.1, c.operands_match g.0 g.1)
 
     may_enter : ((y : ℕ) → IsIn y (free_all I es) → Origin p y) → MayEnter p l

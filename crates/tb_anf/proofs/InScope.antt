@@ -354,7 +354,7 @@ module _ (I : ℕ → List ℕ) (single : ℕ → Type 0) where
         (fit-tasks f s vs le (λ y i. w y (in-left y (free I f) _ i)) (good-left (nodes f) (nodes d) g))
         (fit-tasks d s vs le (λ y i. w y (in-right y (free I f) _ i)) (good-right (nodes f) (nodes d) g))
 
-    all_fit : (es : Trees) (s : ℕ) (vs : List ℕ) → length vs ≤ s → Within (free_all I es) vs → Good (nodes_of es) →
+    pub all_fit : (es : Trees) (s : ℕ) (vs : List ℕ) → length vs ≤ s → Within (free_all I es) vs → Good (nodes_of es) →
         Every FitTask (tasks_all s es)
     all_fit none s vs le w g = tt
     all_fit (more e es) s vs le w g =

@@ -34,3 +34,5 @@ pub mod Keeping
 pub mod Operations
 pub mod Tasks
 pub mod InScope
+pub mod Cells
+pub mod Widths

@@ -119,7 +119,7 @@ every-in P (y ∷ xs) x e (inl q) = subst P q e.0
 every-in P (y ∷ xs) x e (inr i) = every-in P xs x e.1 i
 
 -- those inside a lambda expression of the list have numbers greater than those before the list
-greater_at : (ls : List LambdaTree) (first k : ℕ) (l : LambdaTree) → InnerAreGreater first ls →
+pub greater_at : (ls : List LambdaTree) (first k : ℕ) (l : LambdaTree) → InnerAreGreater first ls →
     slice_get ls k ≡ Some l → (m : ℕ) → IsIn m (of_nodes standing_at (nodes l.body)) → first + k < m
 greater_at [] first k l h e m i = cc
 greater_at (n ∷ ls) first zero l h e m i =
