@@ -36,3 +36,5 @@ pub mod Tasks
 pub mod InScope
 pub mod Cells
 pub mod Widths
+pub mod NoWider
+pub mod WiderLemmas

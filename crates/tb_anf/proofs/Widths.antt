@@ -83,12 +83,12 @@ module _ (p : ProgramTree) (order : List Line) (rules : KeepsRules (2 ^ 31) p) (
   own = own_formals p order rules lines
 
   -- a lambda expression with so many variables in scope, among which are those that it names and those added to it
-  record Wide (t : Task) : Type 0 where
-    variables : List ℕ
-    few : length variables ≤ t.scope
-    free_there : (y : ℕ) → IsIn y (I t.number) → IsIn y variables
-    added_there : (y : ℕ) → IsIn y (added_to p.set t.number) → IsIn y variables
-    both : length (added_to p.set t.number) + length (captured p t.number) ≤ t.scope
+  pub record Wide (t : Task) : Type 0 where
+    pub variables : List ℕ
+    pub few : length variables ≤ t.scope
+    pub free_there : (y : ℕ) → IsIn y (I t.number) → IsIn y variables
+    pub added_there : (y : ℕ) → IsIn y (added_to p.set t.number) → IsIn y variables
+    pub both : length (added_to p.set t.number) + length (captured p t.number) ≤ t.scope
 
   -- one that stands at a node
   wide_standing : (t : Task) → IsIn t.number (of_nodes standing_at (all_nodes p)) → FitTask I (single p order rules lines) t → Wide t
@@ -119,7 +119,7 @@ module _ (p : ProgramTree) (order : List Line) (rules : KeepsRules (2 ^ 31) p) (
       of_all (λ z. IsIn z (of_nodes standing_at (all_nodes p))) (K.nodes m.body)
       (body-nodes _ p (in-node standing_at (all_nodes p)) l m e) k i
 
-  wide_all : (ts : List Task) → ((k : ℕ) → IsIn k (numbers_of ts) → IsIn k (of_nodes standing_at (all_nodes p))) →
+  pub wide_all : (ts : List Task) → ((k : ℕ) → IsIn k (numbers_of ts) → IsIn k (of_nodes standing_at (all_nodes p))) →
       Every (FitTask I (single p order rules lines)) ts → Every Wide ts
   wide_all [] h f = tt
   wide_all (t ∷ ts) h f = (wide_standing t (h t.number (inl refl)) f.0, wide_all ts (λ k i. h k (inr i)) f.1)
@@ -158,7 +158,7 @@ module _ (p : ProgramTree) (order : List Line) (rules : KeepsRules (2 ^ 31) p) (
       let f = fits (line_of order) own m.body (body-nodes _ p (all-fit p order rules lines) l m e) n in
       omega arith
 
-  abbrev stands : List LambdaTree → List ℕ
+  abbrev pub stands : List LambdaTree → List ℕ
   stands ms = of_nodes standing_at (nodes_of_lambdas ms)
 
   stands_greater : (ms : List LambdaTree) (first l : ℕ) → InnerAreGreater first ms → IsIn l (stands ms) → first < l
@@ -171,10 +171,10 @@ module _ (p : ProgramTree) (order : List Line) (rules : KeepsRules (2 ^ 31) p) (
       (subst (IsIn l) (of_nodes-append standing_at (K.nodes m.body) (nodes_of_lambdas ms)) i))
 
   -- the widths of lambda expressions from a number on, in the order of their numbers
-  record Ordered (first n : ℕ) (ms : List LambdaTree) (ts : List Task) : Type 0 where
-    widths_of : List ℕ
-    same : (k : ℕ) → times k widths_of ≡ times k (gathered (lambdas_widths lined own ms first) ts)
-    at_most : AreAtMost (map W.proc_width (lambda_procs p (line_of order) first n ms)) widths_of
+  pub record Ordered (first n : ℕ) (ms : List LambdaTree) (ts : List Task) : Type 0 where
+    pub widths_of : List ℕ
+    pub same : (k : ℕ) → times k widths_of ≡ times k (gathered (lambdas_widths lined own ms first) ts)
+    pub at_most : AreAtMost (map W.proc_width (lambda_procs p (line_of order) first n ms)) widths_of
 
   gathered_none : (first : ℕ) (ts : List Task) → gathered (lambdas_widths lined own [] first) ts ≡ []
   gathered_none first [] = refl
@@ -234,7 +234,7 @@ module _ (p : ProgramTree) (order : List Line) (rules : KeepsRules (2 ^ 31) p) (
         let e7 = ap (times k) (gathered-append later a b) ∙ times-append k (gathered later a) _ in
         omega arith
 
-  ordered : (ms : List LambdaTree) (first n : ℕ) (ts : List Task) →
+  pub ordered : (ms : List LambdaTree) (first n : ℕ) (ts : List Task) →
       ((i : ℕ) (m : LambdaTree) → slice_get ms i ≡ Some m → IsLambda p (first + i) m) → InnerAreGreater first ms →
       IsApart (numbers_of ts ++ stands ms) →
       ((l : ℕ) → first ≤ l → l < first + length ms → IsIn l (numbers_of ts ++ stands ms)) → Every Wide ts →
