@@ -150,7 +150,8 @@ module _ (x : Context) (calls : Form → Type 0) (taken : ℕ → List ℕ) wher
 
   module _ (m q : Env) (p : Place) (s n i : ℕ) (f : Form) (vs : List Value) (done rest : List ℕ) (ds : List Operand)
       (k : After) (fs : Frames) (ts : AnfFrames) (needed : List ℕ) (e : Tree) (o : by_operands f ≡ true)
-      (so : SoundForm x calls n s f) (nw : AreNew (names_form n f) needed) (ns : numbers (x.line s) f ≡ done ++ i ∷ rest)
+      (so : SoundForm x calls n s f) (nw : AreNew (names_form n f) needed) (ns : numbers
+      (x.line s) f ≡ done ++ i ∷ rest)
       (t : tree_at (operands f) i ≡ Some e) (d : Done m (operand_atoms n f) done ds vs)
       (c : Named (free_of_numbers x (operands f) rest ++ free_of_body x f) q m)
       (h : Follows x calls taken m fs k ts needed) where
@@ -236,11 +237,13 @@ module _ (x : Context) (calls : Form → Type 0) (taken : ℕ → List ℕ) wher
   next-operand m q p s n i f vs done rest ds k fs ts needed e o so nw ns t d c h = by
       (view x.line n f o) o so nw ns t d c
     where
-      by : {f : Form} → View x.line n f → by_operands f ≡ true → SoundForm x calls n s f → AreNew (names_form n f) needed →
+      by : {f : Form} → View x.line n f → by_operands f ≡ true → SoundForm x calls n s f →
+          AreNew (names_form n f) needed →
           numbers (x.line s) f ≡ done ++ i ∷ rest → tree_at (operands f) i ≡ Some e →
           Done m (operand_atoms n f) done ds vs →
           Named (free_of_numbers x (operands f) rest ++ free_of_body x f) q m →
           Begins m e (Args p s f vs q) fs (around (steps x.line n f) (i ∷ rest) (finish x.line n p f k)) ts
-      by (of_let xs es b) o so nw ns t d c = let_next m q p s n i xs es b vs done rest ds k fs ts needed e so nw ns t d c h
+      by (of_let xs es b) o so nw ns t d c =
+          let_next m q p s n i xs es b vs done rest ds k fs ts needed e so nw ns t d c h
       by (plain {f = g} a b z) o so nw ns t d c =
           plain_next m q p s n i g vs done rest ds k fs ts needed e o so nw ns t d c h a b

@@ -108,7 +108,8 @@ bound_same n k k' xs xs' ns ns' a b c h =
 name_bound : (n : ℕ) → Bound n 1 [] (value_name n ∷ [])
 name_bound n = record {
   apart = λ a s. (λ i. i, tt);
-  each = λ y i. ⊎_elim (λ e. inr (record { node = n; from = omega arith; below = omega arith; same = e })) (λ z. absurd z) i;
+  each = λ y i. ⊎_elim (λ e. inr (record { node = n; from = omega arith; below = omega arith; same = e }))
+      (λ z. absurd z) i;
 }
 
 pub names-bound : (e : Tree) → TreeBound e

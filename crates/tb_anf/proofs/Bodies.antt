@@ -23,7 +23,8 @@ use Rattle.tb_anf.proofs.Operands.{apart-both, free-at, nodes-at, every-left}
 use Rattle.tb_anf.proofs.Scopes.{every-in, in-node, IsScoped, scoped, free-of-lambda}
 use Rattle.tb_anf.proofs.Variables.{form-once, body-once, not-in-form, no-parameter, same-body, form-variable, body-variable, parameter-variable, own-form, body-nodes}
 
-pub every-zip : {X : Type 0} (P Q R : X → Type 0) (xs : List X) → ((x : X) → P x → Q x → R x) → Every P xs → Every Q xs →
+pub every-zip : {X : Type 0} (P Q R : X → Type 0) (xs : List X) → ((x : X) → P x → Q x → R x) → Every P xs →
+    Every Q xs →
     Every R xs
 every-zip P Q R [] h a b = tt
 every-zip P Q R (x ∷ xs) h a b = (h x a.0 b.0, every-zip P Q R xs h a.1 b.1)
@@ -90,7 +91,8 @@ module _ (p : ProgramTree) (order : List Line) (rules : KeepsRules (2 ^ 31) p) (
       record {
         grounded = λ m e y f.
             let ns : I l ≡ without (parameters m) (free I m.body) = inner l m e
-            ∙ ap (λ z. without z (free I m.body)) (ap (λ z. parameters m ++ z) none_added ∙ append-nil (parameters m)) in
+            ∙ ap (λ z. without z (free I m.body)) (ap (λ z. parameters m ++ z) none_added
+            ∙ append-nil (parameters m)) in
             from y (subst (IsIn y) (sym ns) (in-without (parameters m) (free I m.body) y f.named f.other));
         not_lifted = none_added;
       }
@@ -115,7 +117,8 @@ module _ (p : ProgramTree) (order : List Line) (rules : KeepsRules (2 ^ 31) p) (
     may_enter : ((y : ℕ) → IsIn y (free_all I es) → Origin p y) → MayEnter p l
     may_enter from = record {
       grounded = λ m e y f.
-          let none_free : without (parameters m ++ added_to p.set l) (free I m.body) ≡ [] = sym (inner l m e) ∙ lifted_keeps.1 in
+          let none_free : without (parameters m ++ added_to p.set l) (free I m.body) ≡ [] = sym (inner l m e)
+          ∙ lifted_keeps.1 in
           ⊎_elim
           (λ t. ⊎_elim
           (λ j. let k : is_in (parameters m) y ≡ true = tested-in (parameters m) y j in let o = f.other in absurd cc)
@@ -173,7 +176,8 @@ module _ (p : ProgramTree) (order : List Line) (rules : KeepsRules (2 ^ 31) p) (
   origin_small : (y : ℕ) → Origin p y → y < 2 ^ 31
   origin_small y (inl i) = small y (form-variable p y i)
   origin_small y (inr b) =
-      small y (⊎_elim (parameter-variable p b.number b.lambda b.there y) (body-variable p b.number b.lambda b.there y) b.here)
+      small y (⊎_elim (parameter-variable p b.number b.lambda b.there y)
+      (body-variable p b.number b.lambda b.there y) b.here)
 
   not_a_name : {n k y : ℕ} → IsName n k y → y < 2 ^ 31 → ⊥
   not_a_name h lt = let e = h.same in omega arith

@@ -138,7 +138,8 @@ module _ (p : ProgramTree) (order : List Line) (rules : KeepsRules (2 ^ 31) p) (
         absurd (omega arith))
         (length p.lambdas) k (omega arith) (omega arith) f;
     cells = body-nodes (λ d. Makes single (form_of d)) p all-make l m e;
-    long = every-map _ _ (nodes m.body) (λ d h. long_of d h) (body-nodes (Facts p order) p (all-facts p order rules lines) l m e);
+    long = every-map _ _ (nodes m.body) (λ d h. long_of d h) (body-nodes (Facts p order) p
+        (all-facts p order rules lines) l m e);
   }
 
   pub good-forms : Good I single (nodes_of p.forms)

@@ -134,7 +134,8 @@ module _ (p : ProgramTree) (order : List Line) (input : List ℕ)
     body-next : (g : Ground) (l n : ℕ) (m : LambdaTree) (r : Env) → IsLambda p l m → Grounded p l →
         Stored x (Calls p) g.store →
         ((y : ℕ) → IsIn y (free x.inner m.body) → (v : Value) × (lookup r y ≡ Some v)) →
-        Both (Running (at g (Eval (InBlock (block_of x.line n m.body AtEnd)) (gather (free_block mine (block_of x.line n m.body AtEnd)) r)) ts) es)
+        Both (Running (at g (Eval (InBlock (block_of x.line n m.body AtEnd)) (gather (free_block mine
+        (block_of x.line n m.body AtEnd)) r)) ts) es)
         (Running (at g (Eval m.body (gather (free x.inner m.body) r)) fs) es)
     body-next g l n m r e gr s has =
         S.evals g n m.body _ r _ AtEnd [] (at_end rel) (bodies l m e gr n) (λ y i j. j)
@@ -185,7 +186,8 @@ module _ (p : ProgramTree) (order : List Line) (input : List ℕ)
       stored-objects (o ∷ os) = (tt, stored-objects os)
 
       binds : (rest : Option ℕ) → m.rest ≡ rest → M.takes (length m.formals) rest (length ws) ≡ true →
-          Both (M.bind_parameters (N.language (normal_form p order)) here (ours m.formals m.rest) rest ws r es) (M.bind_parameters (T.language p order) there theirs rest ws r es)
+          Both (M.bind_parameters (N.language (normal_form p order)) here (ours m.formals m.rest) rest ws r es)
+          (M.bind_parameters (T.language p order) there theirs rest ws r es)
       binds None q t =
           body-next h l n m (bind_all m.formals ws r) e may.grounded st
           (λ y i. bound-or-there m.formals ws r y (eqb-true (length m.formals) (length ws) t)
@@ -261,7 +263,8 @@ module _ (p : ProgramTree) (order : List Line) (input : List ℕ)
         Both
         (cond t (M.go here (M.eval (N.language (normal_form p order)) (InBlock (block_of x.line n m.body AtEnd))
         (bind_all (m.formals ++ added_to p.set l) ws Empty)) ts es) (M.fail here Cause.WrongArgs m.place es))
-        (cond t (M.go there (M.eval (T.language p order) m.body (bind_all (m.formals ++ added_to p.set l) ws Empty)) fs es)
+        (cond t (M.go there (M.eval (T.language p order) m.body (bind_all
+        (m.formals ++ added_to p.set l) ws Empty)) fs es)
         (M.fail there Cause.WrongArgs m.place es))
     lifted-tested l n m e may true t =
         body-next h l n m (bind_all (m.formals ++ added_to p.set l) ws Empty) e may.grounded st

@@ -39,10 +39,12 @@ module _ (p : ProgramTree) (order : List Line) (taken : ℕ → List ℕ) where
   -- more operands are left
   pub gives-more : (h : Ground) (v : Value) (a : Operand) (m q r : Env) (q' : Place) (s n i i' : ℕ) (f : Form)
       (vs : List Value) (done rest : List ℕ) (ds : List Operand) (k : After) (fs : Frames) (ts : AnfFrames)
-      (needed : List ℕ) (es : List Event) → by_operands f ≡ true → SoundForm x (Calls p) n s f → AreNew (names_form n f) needed →
+      (needed : List ℕ) (es : List Event) → by_operands f ≡ true → SoundForm x (Calls p) n s f →
+      AreNew (names_form n f) needed →
       numbers (x.line s) f ≡ done ++ i ∷ (i' ∷ rest) → slice_get (operand_atoms n f) i ≡ Some a →
       Done m (operand_atoms n f) done ds vs → atom_value m a ≡ Some v →
-      Named (free_of_numbers x (operands f) (i' ∷ rest) ++ free_of_body x f) q m → Follows x (Calls p) taken m fs k ts needed →
+      Named (free_of_numbers x (operands f) (i' ∷ rest) ++ free_of_body x f) q m →
+      Follows x (Calls p) taken m fs k ts needed →
       r ≡ gather (free_block taken (around (steps x.line n f) (i' ∷ rest) (finish x.line n q' f k))) m →
       Stored x (Calls p) h.store →
       Related p order taken
@@ -104,4 +106,5 @@ module _ (p : ProgramTree) (order : List Line) (taken : ℕ → List ℕ) where
       subst (λ z. Ready p order taken m (at h (Val v) hs) es fs (operation n q' f)
       (T.operands_left x (at h (Val v) hs) q' s f (vs ++ v ∷ []) q (numbers (x.line s) f) z fs es))
       (sym (rest-left (numbers (x.line s) f) done [] i vs v ns (done-length d)))
-      (operation-ready p order taken m q (at h (Val v) hs) es fs q' n f _ o l so.here.may (there s n i f a v o so ns g d e))
+      (operation-ready p order taken m q (at h (Val v) hs) es fs q' n f _ o l so.here.may
+      (there s n i f a v o so ns g d e))

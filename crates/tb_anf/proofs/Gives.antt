@@ -74,7 +74,8 @@ module _ (p : ProgramTree) (order : List Line) (input : List ℕ) where
         let same = ap (sizes_at (operands f)) now in
         let to : drop (length ws) all ≡ i' ∷ rest = ap (λ z. drop z all) (sym last) ∙ now in
         Sim.source_moves
-        (gives-more p order mine h v a m q r u s n i i' f vs done rest ds k fs ts needed es o so nw ns g d e nm fo eq st)
+        (gives-more p order mine h v a m q r u s n i i' f vs done rest ds k fs ts needed es o so nw ns g d e nm fo
+        eq st)
         (subst (λ z. state_weight (line_of order) (T.operands_left x here u s f ws q all z fs es) <
         state_weight (line_of order) (Running here es)) (sym to) (omega arith))
 
@@ -114,7 +115,8 @@ module _ (p : ProgramTree) (order : List Line) (input : List ℕ) where
         subst (λ b. Turns p order input (Running (at h (Eval (InBlock b) r) ts) es)
         (Running (at h (Val v) (push (Args u s f vs q) fs)) es)) (sym same)
         (Sim.target_moves
-        (gives-runs p order mine (fewer p order input) h v a m q r u s n i f vs done ds k fs ts needed es o l so ns g d e
+        (gives-runs p order mine
+        (fewer p order input) h v a m q r u s n i f vs done ds k fs ts needed es o l so ns g d e
         fo (eq ∙ ap (λ b. gather (free_block mine b) m) same) st) (omega arith))
 
     operand-gives : (rest : List ℕ) (f : Form) → by_operands f ≡ true → SoundForm x (Calls p) n s f →
@@ -146,7 +148,8 @@ module _ (p : ProgramTree) (order : List Line) (input : List ℕ) where
       atom_value m a ≡ Some v → r ≡ gather (free_block mine b) m → Stored x (Calls p) h.store →
       Turns p order input (Running (at h (Eval (InBlock b) r) ts) es) (Running (at h (Val v) (push w fs)) es)
   gives-moves h v a m r _ _ _ fs ts es
-      (operand n i done rest ds {q = q} {p = u} {s = s} {f = f} {vs = vs} {k = k} {needed = needed} o so nw ns g d nm fo)
+      (operand n i done rest ds {q = q} {p = u} {s = s} {f = f} {vs = vs} {k = k} {needed = needed} o so nw ns g d nm
+      fo)
       e eq st =
       operand-gives h v a m q r u s n i done ds k fs ts needed es vs rest f o so nw ns g d e nm fo eq st
   gives-moves h v a m r _ _ _ fs ts es

@@ -39,7 +39,8 @@ located-roots [] k q r P h l i = h l i
 located-roots (x ∷ xs) k q r P h l (inl e) = inl (inl e)
 located-roots (x ∷ xs) k q r P h l (inr i) = ⊎_elim (λ z. inl (inr z)) inr (located-roots xs (suc k) q r P h l i)
 
-pub stored-append : (x : T.Context) (calls : Form → Type 0) (st is : List Item) → Stored x calls st → Stored x calls is →
+pub stored-append : (x : T.Context) (calls : Form → Type 0) (st is : List Item) → Stored x calls st →
+    Stored x calls is →
     Stored x calls (st ++ is)
 stored-append x calls [] is s h = h
 stored-append x calls (i ∷ st) is s h = (s.0, stored-append x calls st is s.1 h)
@@ -147,4 +148,5 @@ module _ (p : ProgramTree) (order : List Line) (input : List ℕ) where
           ⊎_elim
           (λ z. inl (named-held g.0 (named-gather F (λ y j. j) nm) z g.1 g.3 l g.4))
           (λ z. inr (follows-held x (Calls p) mine (fewer p order input) f g.0 z g.1 g.3 l g.4))
-          (block-uses x (Calls p) mine (fewer p order input) (Node u s (Letrec xs ls e)) (so.here, so.proper) n k g.0 g.2)
+          (block-uses x (Calls p) mine (fewer p order input) (Node u s (Letrec xs ls e))
+          (so.here, so.proper) n k g.0 g.2)

@@ -84,7 +84,8 @@ module _ (I : ℕ → List ℕ) (single : ℕ → Type 0) where
       }
 
   -- a variable of which a cell is made is not named on both sides
-  not-both : (ds es : List Tree) → Good (ds ++ es) → (x : ℕ) → single x → IsIn x (named_in ds) → IsIn x (named_in es) → ⊥
+  not-both : (ds es : List Tree) → Good (ds ++ es) → (x : ℕ) → single x → IsIn x (named_in ds) →
+      IsIn x (named_in es) → ⊥
   not-both ds es g x s i j =
       let h = g.once x s in
       let e = ap (times x) (of_nodes-append named ds es) ∙ times-append x (named_in ds) (named_in es) in
@@ -99,12 +100,22 @@ module _ (I : ℕ → List ℕ) (single : ℕ → Type 0) where
   reached-left : (ds es : List Tree) (y : ℕ) → Reached ds y → Reached (ds ++ es) y
   reached-left ds es y =
       ⊎_elim (λ i. inl (subst (IsIn y) (sym (of_nodes-append named ds es)) (in-left y (named_in ds) _ i)))
-      (λ r. inr (r.0, subst (IsIn r.0) (sym (of_nodes-append standing_at ds es)) (in-left r.0 (stand_at ds) _ r.1), r.2))
+      (λ r. inr (
+        r.0,
+        subst (IsIn r.0) (sym (of_nodes-append standing_at ds es)) (in-left r.0
+            (stand_at ds) _ r.1),
+        r.2,
+      ))
 
   reached-right : (ds es : List Tree) (y : ℕ) → Reached es y → Reached (ds ++ es) y
   reached-right ds es y =
       ⊎_elim (λ i. inl (subst (IsIn y) (sym (of_nodes-append named ds es)) (in-right y (named_in ds) _ i)))
-      (λ r. inr (r.0, subst (IsIn r.0) (sym (of_nodes-append standing_at ds es)) (in-right r.0 (stand_at ds) _ r.1), r.2))
+      (λ r. inr (
+        r.0,
+        subst (IsIn r.0) (sym (of_nodes-append standing_at ds es)) (in-right r.0
+            (stand_at ds) _ r.1),
+        r.2,
+      ))
 
   in_group : (ls : List ℕ) (y : ℕ) → IsIn y (of_lambdas I ls) → (l : ℕ) × IsIn l ls × IsIn y (I l)
   in_group [] y i = absurd i

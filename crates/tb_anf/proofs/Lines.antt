@@ -17,7 +17,8 @@ use Rattle.tb_anf.proofs.Weights.{in-numbers}
 numbers-from : (i n j : ℕ) → IsIn j (numbers_from i n) → (i ≤ j) × (j < i + n)
 numbers-from i zero j h = absurd h
 numbers-from i (suc n) j (inl e) = (omega arith, omega arith)
-numbers-from i (suc n) j (inr h) = let k = numbers-from (suc i) n j h in let a = k.0 in let b = k.1 in (omega arith, omega arith)
+numbers-from i (suc n) j (inr h) = let k = numbers-from (suc i) n j h in let a = k.0 in let b = k.1 in
+    (omega arith, omega arith)
 
 numbers-apart : (i n : ℕ) → IsApart (numbers_from i n)
 numbers-apart i zero = tt
@@ -36,11 +37,13 @@ abbrev inner_line : List ℕ → List ℕ
 inner_line line = map (λ i. i - 1) (filter (λ i. not (i == 0)) line)
 
 inner_zero : (i : ℕ) (line : List ℕ) → i ≡ 0 → inner_line (i ∷ line) ≡ inner_line line
-inner_zero i line e = ap (λ b. map (λ i. i - 1) (cond (not b) (i ∷ filter (λ i. not (i == 0)) line) (filter (λ i. not (i == 0)) line)))
+inner_zero i line e = ap (λ b. map (λ i. i - 1) (cond (not b) (i ∷ filter (λ i. not (i == 0)) line) (filter (λ i. not
+    (i == 0)) line)))
     (eq-eqb i 0 e)
 
 inner_suc : (i : ℕ) (line : List ℕ) → (i ≡ 0 → ⊥) → inner_line (i ∷ line) ≡ (i - 1) ∷ inner_line line
-inner_suc i line ne = ap (λ b. map (λ i. i - 1) (cond (not b) (i ∷ filter (λ i. not (i == 0)) line) (filter (λ i. not (i == 0)) line)))
+inner_suc i line ne = ap (λ b. map (λ i. i - 1) (cond (not b) (i ∷ filter (λ i. not (i == 0)) line) (filter (λ i. not
+    (i == 0)) line)))
     (ne_eqb i 0 ne)
 
 inner-in : (line : List ℕ) (j : ℕ) → IsIn j (inner_line line) → IsIn (suc j) line
@@ -57,7 +60,8 @@ in-inner (i ∷ line) j h =
     ⊎_elim
     (λ z. subst (IsIn j) (sym (inner_zero i line z))
     (⊎_elim (λ e. absurd (omega arith)) (λ k. in-inner line j k) h))
-    (λ ne. subst (IsIn j) (sym (inner_suc i line ne)) (⊎_elim (λ e. inl (omega arith)) (λ k. inr (in-inner line j k)) h))
+    (λ ne. subst (IsIn j) (sym (inner_suc i line ne)) (⊎_elim (λ e. inl (omega arith)) (λ k. inr
+    (in-inner line j k)) h))
     (cases_eq i 0)
 
 inner-apart : (line : List ℕ) → IsApart line → IsApart (inner_line line)
@@ -77,7 +81,8 @@ direct-permutation line k n h le =
     let long = permutation-length line (suc k) h in
     let e : length line - 1 ≡ k = omega arith in
     subst (λ z. IsPermutation (inner_line line ++ numbers_from z (n - z)) n) (sym e) (record {
-      apart = apart-append (inner_line line) (numbers_from k (n - k)) (inner-apart line h.apart) (numbers-apart k (n - k))
+      apart = apart-append (inner_line line) (numbers_from k (n - k)) (inner-apart line h.apart) (numbers-apart k
+          (n - k))
           (λ y i j. let lt = h.within (suc y) (inner-in line y i) in let b = (numbers-from k (n - k) y j).0 in
           absurd (omega arith));
       within = λ y i. ⊎_elim
@@ -116,7 +121,8 @@ direct-there (Some line) k n h le = direct-permutation line k n h le
 
 pub node-permutation : (p : ProgramTree) (order : List Line) (u : Place) (s : ℕ) (f : Form) → by_operands f ≡ true →
     HasLine order p.set p.lambdas (Node u s f) →
-    ((l : ℕ) (es : Trees) → f ≡ Direct l es → (m : LambdaTree) × IsLambda p l m × AreAdded (length m.formals) es (added_to p.set l)) →
+    ((l : ℕ) (es : Trees) → f ≡ Direct l es → (m : LambdaTree) × IsLambda p l m × AreAdded (length m.formals) es
+    (added_to p.set l)) →
     IsPermutation (numbers (line_of order s) f) (count (operands f))
 node-permutation p order u s (NewCell e) o h d = written-permutation 1
 node-permutation p order u s (CellGet e) o h d = written-permutation 1

@@ -65,9 +65,11 @@ module _ (p : ProgramTree) (order : List Line) (input : List ℕ) (size_s : Tree
       (ts : AnfFrames) (es : List Event) → Follows (T.context_of p order) (Calls p) taken m fs k ts needed →
       Sound (T.context_of p order) (Calls p) n e → AreNew (names n e) needed →
       Named (free (T.context_of p order).inner e) q m →
-      gather (free_block taken (block_of (line_of order) n e k)) r ≡ gather (free_block taken (block_of (line_of order) n e k)) m →
+      gather (free_block taken (block_of (line_of order) n e k)) r ≡ gather (free_block taken (block_of
+      (line_of order) n e k)) m →
       Stored (T.context_of p order) (Calls p) h.store →
-      Moves (Running (at h (Bound (InBlock (block_of (line_of order) n e k)) r) ts) es) (Running (at h (Bound e q) fs) es)
+      Moves (Running (at h (Bound (InBlock (block_of (line_of order) n e k)) r) ts) es) (Running (at h
+      (Bound e q) fs) es)
   bound-moves h n e q m r k needed fs ts es f so nw nm eq st =
       Sim.both_move (S.evals h n e _ m _ k needed f so nw
       (named-gather (free (T.context_of p order).inner e) (λ y i. i) nm) eq st)
@@ -75,7 +77,8 @@ module _ (p : ProgramTree) (order : List Line) (input : List ℕ) (size_s : Tree
   -- the source reads an atom, and the target waits
   pub reads-next : (h : Ground) (e : Tree) (a : Operand) (q m r : Env) (w : T.TreeWork) (b : Block) (needed : List ℕ)
       (fs : Frames) (ts : AnfFrames) (es : List Event) → Simple e a →
-      Awaits (T.context_of p order) (Calls p) taken m a w fs b ts needed → Named (free (T.context_of p order).inner e) q m →
+      Awaits (T.context_of p order) (Calls p) taken m a w fs b ts needed →
+      Named (free (T.context_of p order).inner e) q m →
       r ≡ gather (free_block taken b) m → Stored (T.context_of p order) (Calls p) h.store →
       Related p order taken (Running (at h (Eval (InBlock b) r) ts) es)
       (M.step (T.language p order) (Running (at h (Eval e q) (M.push w fs)) es))

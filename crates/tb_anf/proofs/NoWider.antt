@@ -48,7 +48,8 @@ in_numbers m (k ∷ ks) (inl e) = inl (ap (λ (z : Lifted). z.lambda) e)
 in_numbers m (k ∷ ks) (inr i) = inr (in_numbers m ks i)
 
 -- what is added to a lambda expression that is lifted once
-added_own : (set : List Lifted) (m : Lifted) → IsApart (lambda_numbers set) → IsIn m set → added_to set m.lambda ≡ m.added
+added_own : (set : List Lifted) (m : Lifted) → IsApart (lambda_numbers set) → IsIn m set →
+    added_to set m.lambda ≡ m.added
 added_own [] m a i = absurd i
 added_own (k ∷ ks) m a (inl e) =
     rw (eq-eqb k.lambda m.lambda (ap (λ (z : Lifted). z.lambda) e)) (ap (λ (z : Lifted). z.added) e)

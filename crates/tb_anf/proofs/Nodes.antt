@@ -52,9 +52,11 @@ module _ (p : ProgramTree) (order : List Line) (taken : ℕ → List ℕ) where
   -- the next operand of the source; the target stays where it is
   pub goes-on : (h : Ground) (m q r : Env) (k : Control Tree) (hs : Frames) (q' : Place) (s n i : ℕ) (f : Form)
       (vs : List Value) (done rest : List ℕ) (ds : List Operand) (a : After) (fs : Frames) (ts : AnfFrames)
-      (needed : List ℕ) (es : List Event) → by_operands f ≡ true → SoundForm x (Calls p) n s f → AreNew (names_form n f) needed →
+      (needed : List ℕ) (es : List Event) → by_operands f ≡ true → SoundForm x (Calls p) n s f →
+      AreNew (names_form n f) needed →
       numbers (x.line s) f ≡ done ++ i ∷ rest → Done m (operand_atoms n f) done ds vs →
-      Named (free_of_numbers x (operands f) (i ∷ rest) ++ free_of_body x f) q m → Follows x (Calls p) taken m fs a ts needed →
+      Named (free_of_numbers x (operands f) (i ∷ rest) ++ free_of_body x f) q m →
+      Follows x (Calls p) taken m fs a ts needed →
       r ≡ gather (free_block taken (around (steps x.line n f) (i ∷ rest) (finish x.line n q' f a))) m →
       Stored x (Calls p) h.store →
       Related p order taken

@@ -78,7 +78,8 @@ module _ (p : ProgramTree) (order : List Line) (input : List ℕ) where
   eval-operands c u s _ q es o = cc
 
   -- an operand that is next weighs less than it did when it was still to come
-  pub operand-weight : (c : T.TreeConfig) (u : Place) (s : ℕ) (f : Form) (vs : List Value) (q : Env) (i : ℕ) (rest : List ℕ)
+  pub operand-weight : (c : T.TreeConfig) (u : Place) (s : ℕ) (f : Form) (vs : List Value) (q : Env) (i : ℕ)
+      (rest : List ℕ)
       (fs : Frames) (es : List Event) (e : Tree) → drop (suc (length vs)) (numbers (x.line s) f) ≡ rest →
       tree_at (operands f) i ≡ Some e →
       state_weight (line_of order) (T.operand x c u s f vs q rest (tree_at (operands f) i) fs es) <
@@ -102,7 +103,8 @@ module _ (p : ProgramTree) (order : List Line) (input : List ℕ) where
       (st : Stored x (Calls p) h.store) (o : by_operands f ≡ true) (so : SoundForm x (Calls p) n s f)
       (nw : AreNew (names_form n f) needed) (nm : Named (free_form x.inner f) q m) where
     abbrev Begun : Block → Type 0
-    Begun b = Turns p order input (Running (at h (Eval (InBlock b) r) ts) es) (Running (at h (Eval (Node u s f) q) fs) es)
+    Begun b = Turns p order input (Running (at h (Eval (InBlock b) r) ts) es) (Running (at h (Eval
+        (Node u s f) q) fs) es)
 
     abbrev here : T.TreeConfig
     here = at h (Eval (Node u s f) q) fs

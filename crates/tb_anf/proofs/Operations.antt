@@ -206,7 +206,8 @@ module _ (line : ℕ → Option (List ℕ)) (own : ℕ → ℕ) where
       let per = fit.permuted refl in
       let body = block_of line (suc n + size_all es) e k in
       let b = he (suc n + size_all es) k in
-      let a = named-fits width (suc n) xs es ns body fit.long (λ i d t n y c. fit-at es i d h t n (Then y c)) per.within in
+      let a = named-fits width (suc n) xs es ns body fit.long (λ i d t n y c. fit-at es i d h t n
+      (Then y c)) per.within in
       let c = named-fits plain_width (suc n) xs es ns body fit.long
       (λ i d t. plain-operand d (w i d t) (fit-at es i d h t)) per.within in
       let a' = sums-permuted width es ns per in

@@ -60,7 +60,8 @@ module _ (x : Context) (calls : Form → Type 0) where
         proper = every-right _ _ _ h.proper;
       }
 
-  pub letrec-sound : (n s : ℕ) (xs ls : List ℕ) (e : Tree) → SoundForm x calls n s (Letrec xs ls e) → Sound x calls (suc n) e
+  pub letrec-sound : (n s : ℕ) (xs ls : List ℕ) (e : Tree) → SoundForm x calls n s (Letrec xs ls e) →
+      Sound x calls (suc n) e
   letrec-sound n s xs ls e h = record {
     apart = apart-right xs _ h.apart;
     new = λ y i j. inside xs (names (suc n) e) (of_lambdas x.inner ls ++ free x.inner e) h.apart h.new y i

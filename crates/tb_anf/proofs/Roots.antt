@@ -103,7 +103,8 @@ pub record Waits (fs : Frames) (ts : AnfFrames) : Type 0 where
   pub marked : marks ts ≡ marks fs
   pub roots : (l : ℕ) → IsIn l (frames_locations N.work_values ts) → IsIn l (frames_locations T.work_values fs)
 
-module _ (x : Context) (calls : Form → Type 0) (taken : ℕ → List ℕ) (fewer : (l y : ℕ) → IsIn y (taken l) → IsIn y (x.inner l)) where
+module _ (x : Context) (calls : Form → Type 0) (taken : ℕ → List ℕ) (fewer : (l y : ℕ) → IsIn y (taken l) →
+    IsIn y (x.inner l)) where
   -- an atom of an operand that is done, or the one that is awaited
   of_atoms : (m : Env) (n i : ℕ) (f : Form) (a : Operand) (vs : List Value) (done rest : List ℕ) (ds : List Operand)
       (j y : ℕ)
@@ -171,13 +172,15 @@ module _ (x : Context) (calls : Form → Type 0) (taken : ℕ → List ℕ) (few
       (λ w. inr (held-more m y ls _ (λ l r. in-right l (values_locations (vs ++ env_values q)) ls r) (h w)))
       (put_named x calls taken fewer k (operation n p f) y z.0))
       (around_named x calls taken fewer (suc n) (operands f)
-      (all_uses x calls taken fewer (operands f) (operands-nodes _ f o so.proper)) rest within (put k (operation n p f)) y
+      (all_uses x calls taken fewer (operands f) (operands-nodes _ f o so.proper)) rest within (put k
+      (operation n p f)) y
       (subst (λ u. IsIn y (free_block taken (around u rest (put k (operation n p f))))) st
       (subst (λ u. IsIn y (free_block taken (around (steps x.line n f) rest u))) (fin p k) t)))
 
   mutual
     -- what a block that awaits a value names is held above the source's frames, but for the value
-    pub awaits-held : {m : Env} {a : Operand} {w : TreeWork} {fs : Frames} {b : Block} {ts : AnfFrames} {needed : List ℕ} →
+    pub awaits-held : {m : Env} {a : Operand} {w : TreeWork} {fs : Frames} {b : Block} {ts : AnfFrames}
+        {needed : List ℕ} →
         Awaits x calls taken m a w fs b ts needed → (y : ℕ) → IsIn y (free_block taken b) →
         IsIn y (free_of_atom a) ⊎
         Held m y (values_locations (T.work_values w) ++ frames_locations T.work_values fs)
@@ -195,7 +198,8 @@ module _ (x : Context) (calls : Form → Type 0) (taken : ℕ → List ℕ) (few
         ⊎_elim
         (λ z. ⊎_elim inl
         (λ r. inr (up (⊎_elim
-        (λ r'. in-left y (free x.inner b) _ (at_end_uses x calls taken fewer b n y (block-uses x calls taken fewer b sb.proper) r'))
+        (λ r'. in-left y (free x.inner b) _ (at_end_uses x calls taken fewer b n y
+        (block-uses x calls taken fewer b sb.proper) r'))
         (λ r'. in-right y (free x.inner b) _
         (at_end_uses x calls taken fewer c l y (block-uses x calls taken fewer c sc.proper) r'))
         (in-either y (free_block taken B) (free_block taken C) r))))
@@ -214,7 +218,8 @@ module _ (x : Context) (calls : Form → Type 0) (taken : ℕ → List ℕ) (few
         (named-held y nm z)))
         (λ z. inr (held-more m y (frames_locations T.work_values fs) _ (λ u r. in-right u env _ r)
         (follows-held h y z)))
-        (sequence_uses x calls taken fewer (more d ds) (all_uses x calls taken fewer (more d ds) so.proper) (suc n) k y t)
+        (sequence_uses x calls taken fewer (more d ds) (all_uses x calls taken fewer (more d ds) so.proper)
+        (suc n) k y t)
 
     pub follows-held : {m : Env} {fs : Frames} {k : After} {ts : AnfFrames} {needed : List ℕ} →
         Follows x calls taken m fs k ts needed → (y : ℕ) → IsIn y (named_behind x calls taken fewer k) →
@@ -239,7 +244,8 @@ module _ (x : Context) (calls : Form → Type 0) (taken : ℕ → List ℕ) (few
       (h k.0 (without-sub (z ∷ []) (free_block taken b) k.0 k.2))
 
   mutual
-    pub awaits-waits : {m : Env} {a : Operand} {w : TreeWork} {fs : Frames} {b : Block} {ts : AnfFrames} {needed : List ℕ} →
+    pub awaits-waits : {m : Env} {a : Operand} {w : TreeWork} {fs : Frames} {b : Block} {ts : AnfFrames}
+        {needed : List ℕ} →
         Awaits x calls taken m a w fs b ts needed → Waits fs ts
     awaits-waits (operand n i done rest ds o so nw ns g d c h) = follows-waits h
     awaits-waits (arms n l sb sc nm nw h) = follows-waits h

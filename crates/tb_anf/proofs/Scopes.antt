@@ -128,7 +128,8 @@ greater_at (n ∷ ls) first zero l h e m i =
     omega arith
 greater_at (n ∷ ls) first (suc k) l h e m i = let j = greater_at ls (suc first) k l h.1 e m i in omega arith
 
-pub in-node : (has : Form → List ℕ) (ds : List Tree) → Every (λ d. (y : ℕ) → IsIn y (has (form_of d)) → IsIn y (of_nodes has ds)) ds
+pub in-node : (has : Form → List ℕ) (ds : List Tree) → Every (λ d. (y : ℕ) → IsIn y (has (form_of d)) →
+    IsIn y (of_nodes has ds)) ds
 in-node has [] = tt
 in-node has (d ∷ ds) = (
   λ y i. in-left y (has (form_of d)) _ i,
@@ -141,7 +142,8 @@ module _ (set : List Lifted) where
       lambdas_free set ms (suc first) v ≡ lambdas_free set (m ∷ ms) first v
   behind m ms first v lt = rw (ne_eqb first v (λ z. omega arith)) refl
 
-  same_behind : (m : LambdaTree) (ms : List LambdaTree) (first k : ℕ) (l : LambdaTree) → InnerAreGreater first (m ∷ ms) →
+  same_behind : (m : LambdaTree) (ms : List LambdaTree) (first k : ℕ) (l : LambdaTree) →
+      InnerAreGreater first (m ∷ ms) →
       slice_get (m ∷ ms) k ≡ Some l →
       free (lambdas_free set ms (suc first)) l.body ≡ free (lambdas_free set (m ∷ ms) first) l.body
   same_behind m ms first k l h e =

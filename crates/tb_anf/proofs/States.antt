@@ -103,7 +103,8 @@ module _ (p : ProgramTree) (order : List Line) (taken : ℕ → List ℕ) where
     apply : (a b : Operand) (q : Place) (v u : Value) → Values m (a ∷ b ∷ []) (v ∷ u ∷ []) →
         Ready m d es fs (A.Apply a b q) (M.apply d q v u fs es)
     branch : (a : Operand) (v : Value) (n l : ℕ) (b c : Tree) (q : Env) → atom_value m a ≡ Some v →
-        Sound source (Calls p) n b → Sound source (Calls p) l c → Named (free source.inner b ++ free source.inner c) q m →
+        Sound source (Calls p) n b → Sound source (Calls p) l c →
+        Named (free source.inner b ++ free source.inner c) q m →
         Ready m d es fs (A.Branch a (block_of source.line n b AtEnd) (block_of source.line l c AtEnd))
         (cond (is_false v) (T.evaluate_cut source d c q fs es) (T.evaluate_cut source d b q fs es))
 
@@ -137,9 +138,11 @@ module _ (p : ProgramTree) (order : List Line) (taken : ℕ → List ℕ) where
         Ready m (at h j hs) es fs op (M.step (T.language p order) (Running (at h j hs) es)) →
         Within (Eval (InOp op) r) ts j hs → r ≡ gather (free_op taken op) m → FramesRel source (Calls p) taken fs ts →
         Stored source (Calls p) h.store → Related (Running (at h (Eval (InOp op) r) ts) es) (Running (at h j hs) es)
-    returns : (h : Ground) (v : Value) {fs : Frames} {ts : AnfFrames} {es : List Event} → FramesRel source (Calls p) taken fs ts →
+    returns : (h : Ground) (v : Value) {fs : Frames} {ts : AnfFrames} {es : List Event} →
+        FramesRel source (Calls p) taken fs ts →
         Stored source (Calls p) h.store → Related (Running (at h (Val v) ts) es) (Running (at h (Val v) fs) es)
-    enters : (h : Ground) (callee : Callee) (vs : List Value) → MayRun callee → {fs : Frames} {ts : AnfFrames} {es : List Event} →
+    enters : (h : Ground) (callee : Callee) (vs : List Value) → MayRun callee →
+        {fs : Frames} {ts : AnfFrames} {es : List Event} →
         FramesRel source (Calls p) taken fs ts → Stored source (Calls p) h.store →
         Related (Running (at h (Entering callee vs) ts) es) (Running (at h (Entering callee vs) fs) es)
     -- procedures that name one another are made, and the environments are not cut yet
@@ -160,7 +163,8 @@ module _ (p : ProgramTree) (order : List Line) (taken : ℕ → List ℕ) where
 
   -- what both machines do alike, above related frames
   module _ (h : Ground) (k : Control Code) (ts : AnfFrames) (j : Control Tree) (hs fs : Frames)
-      (within : Within k ts j hs) (rel : FramesRel source (Calls p) taken fs ts) (st : Stored source (Calls p) h.store) where
+      (within : Within k ts j hs) (rel : FramesRel source (Calls p) taken fs ts) (st : Stored source
+      (Calls p) h.store) where
     abbrev c : AnfConfig
     c = at h k ts
 
@@ -182,7 +186,8 @@ module _ (p : ProgramTree) (order : List Line) (taken : ℕ → List ℕ) where
 
     writes : (l : ℕ) (i : Item) (v : Value) (es : List Event) → HasCaptured source (Calls p) i →
         Related (M.go_with c (Val v) ts (slice_set h.store l i) es) (M.go_with d (Val v) fs (slice_set h.store l i) es)
-    writes l i v es o = returns (record h { store = slice_set h.store l i }) v rel (stored-set source (Calls p) h.store l i st o)
+    writes l i v es o = returns (record h { store = slice_set h.store l i }) v rel (stored-set source
+        (Calls p) h.store l i st o)
 
     assigns : (g : ℕ) (v : Value) (es : List Event) →
         Related (M.assign_global c g v ts es) (M.assign_global d g v fs es)
@@ -274,7 +279,8 @@ module _ (p : ProgramTree) (order : List Line) (taken : ℕ → List ℕ) where
     reads_value e q (Some v) es = returns h v (subst (λ z. FramesRel source (Calls p) taken z ts) (sym e) rel) st
 
     makes_closure : hs ≡ fs → (l : ℕ) (q r : Env) (xs : List ℕ) (es : List Event) →
-        gather xs r ≡ gather (source.captured l) q → HasCaptured source (Calls p) (Clo l (gather (source.captured l) q)) →
+        gather xs r ≡ gather (source.captured l) q → HasCaptured source (Calls p) (Clo l (gather
+        (source.captured l) q)) →
         Related (M.make_closure c l xs r es) (M.make_closure d l (source.captured l) q es)
     makes_closure e l q r xs es g o =
         subst (λ z. Related (M.go_with c (Val (At (length h.store))) ts (h.store ++ Clo l z ∷ []) es)
@@ -295,7 +301,8 @@ module _ (p : ProgramTree) (order : List Line) (taken : ℕ → List ℕ) where
 
   -- an arm of a branch
   arm : (h : Ground) (k : Control Code) (ts : AnfFrames) (j : Control Tree) (hs fs : Frames) (n : ℕ) (e : Tree)
-      (m q r : Env) (es : List Event) → FramesRel source (Calls p) taken fs ts → Stored source (Calls p) h.store → Sound source (Calls p) n e →
+      (m q r : Env) (es : List Event) → FramesRel source (Calls p) taken fs ts → Stored source (Calls p) h.store →
+      Sound source (Calls p) n e →
       Named (free source.inner e) q m →
       gather (free_block taken (block_of source.line n e AtEnd)) r ≡ gather
       (free_block taken (block_of source.line n e AtEnd)) m →

@@ -48,7 +48,8 @@ module _ (p : ProgramTree) (order : List Line) (input : List ℕ) where
   evaluates h q m r k needed fs ts es n (Node u s f) fo st so nw nm eq =
       by f (form-sound x (Calls p) n u s f so) (λ y i. nw y (inr i)) nm eq
     where
-      by : (f : Form) → SoundForm x (Calls p) n s f → AreNew (names_form n f) needed → Named (free x.inner (Node u s f)) q m →
+      by : (f : Form) → SoundForm x (Calls p) n s f → AreNew (names_form n f) needed →
+          Named (free x.inner (Node u s f)) q m →
           r ≡ gather (free_block mine (block_of x.line n (Node u s f) k)) m →
           Turns p order input (Running (at h (Eval (InBlock (block_of x.line n (Node u s f) k)) r) ts) es)
           (Running (at h (Eval (Node u s f) q) fs) es)
@@ -89,7 +90,8 @@ module _ (p : ProgramTree) (order : List Line) (input : List ℕ) where
   reads-weight h _ _ q m w fs es (variable {p = u} {s = s} y) nm =
       let k = nm.has y (inl refl) in
       subst (λ o. state_weight (line_of order) (M.give_value (at h (Eval (Node u s (Local y)) q) (push w fs)) o es) <
-      state_weight (line_of order) (Running (at h (Eval (Node u s (Local y)) q) (push w fs)) es)) (sym k.1) (omega arith)
+      state_weight (line_of order) (Running (at h (Eval (Node u s (Local y)) q) (push w fs)) es)) (sym k.1)
+      (omega arith)
 
   module _ (bodies : (l : ℕ) (m : LambdaTree) → IsLambda p l m → Grounded p l → (n : ℕ) → Sound x (Calls p) n m.body)
       (inner : (l : ℕ) (m : LambdaTree) → IsLambda p l m →

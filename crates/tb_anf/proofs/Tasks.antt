@@ -57,7 +57,8 @@ gathered-append f (t ∷ ts) us =
 
 -- the widths are those of the tasks
 module _ (lined : ℕ → Bool) (own : ℕ → ℕ) (f : ℕ → ℕ → List ℕ) where
-  two : (ts us : List Task) (xs ys : List ℕ) → xs ≡ gathered f ts → ys ≡ gathered f us → xs ++ ys ≡ gathered f (ts ++ us)
+  two : (ts us : List Task) (xs ys : List ℕ) → xs ≡ gathered f ts → ys ≡ gathered f us →
+      xs ++ ys ≡ gathered f (ts ++ us)
   two ts us xs ys a b = append-same xs ys (gathered f ts) (gathered f us) a b ∙ sym (gathered-append f ts us)
 
   of_group : (s : ℕ) (ls : List ℕ) → widths_of_lambdas f s ls ≡ gathered f (tasks_of s ls)

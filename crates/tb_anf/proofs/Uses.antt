@@ -55,7 +55,8 @@ some_variable [] y i = absurd i
 some_variable (x ∷ xs) y (inl e) = (0, ap Some e, omega arith)
 some_variable (x ∷ xs) y (inr i) = let r = some_variable xs y i in (suc r.0, r.1, (let lt = r.2 in omega arith))
 
-module _ (x : Context) (calls : Form → Type 0) (taken : ℕ → List ℕ) (fewer : (l y : ℕ) → IsIn y (taken l) → IsIn y (x.inner l)) where
+module _ (x : Context) (calls : Form → Type 0) (taken : ℕ → List ℕ) (fewer : (l y : ℕ) → IsIn y (taken l) →
+    IsIn y (x.inner l)) where
   abbrev pub named_in : Block → List ℕ
   named_in b = free_block taken b
 
@@ -274,7 +275,8 @@ module _ (x : Context) (calls : Form → Type 0) (taken : ℕ → List ℕ) (few
     pub block-uses : (e : Tree) → Every (ProperNode x calls) (nodes e) → Uses e
     block-uses (Node p s f) a = λ n k y i. form_uses p s f a.0 a.1 n k y i
 
-    form_uses : (p : Place) (s : ℕ) (f : Form) → Proper x calls s f → Every (ProperNode x calls) (nodes_in f) → (n : ℕ) (k : After)
+    form_uses : (p : Place) (s : ℕ) (f : Form) → Proper x calls s f → Every (ProperNode x calls) (nodes_in f) →
+        (n : ℕ) (k : After)
         (y : ℕ) → IsIn y (named_in (block_of x.line n (Node p s f) k)) →
         IsIn y (free_form x.inner f) ⊎ IsIn y (named_behind k)
     form_uses p s (Quote c) pr a n k y i = put_named k _ y i

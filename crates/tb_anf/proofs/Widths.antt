@@ -91,7 +91,8 @@ module _ (p : ProgramTree) (order : List Line) (rules : KeepsRules (2 ^ 31) p) (
     pub both : length (added_to p.set t.number) + length (captured p t.number) ≤ t.scope
 
   -- one that stands at a node
-  wide_standing : (t : Task) → IsIn t.number (of_nodes standing_at (all_nodes p)) → FitTask I (single p order rules lines) t → Wide t
+  wide_standing : (t : Task) → IsIn t.number (of_nodes standing_at (all_nodes p)) →
+      FitTask I (single p order rules lines) t → Wide t
   wide_standing t i f =
       let e = not-lifted p order rules lines t.number i in
       let z = ap length e in
@@ -107,7 +108,8 @@ module _ (p : ProgramTree) (order : List Line) (rules : KeepsRules (2 ^ 31) p) (
       }
 
   -- what holds of all that nodes have
-  of_all : (Q : ℕ → Type 0) (ds : List Tree) → Every (λ d. (l : ℕ) → IsIn l (standing_at (form_of d)) → Q l) ds → (l : ℕ) →
+  of_all : (Q : ℕ → Type 0) (ds : List Tree) → Every (λ d. (l : ℕ) → IsIn l (standing_at (form_of d)) → Q l) ds →
+      (l : ℕ) →
       IsIn l (of_nodes standing_at ds) → Q l
   of_all Q [] h l i = absurd i
   of_all Q (d ∷ ds) h l i =
@@ -139,7 +141,8 @@ module _ (p : ProgramTree) (order : List Line) (rules : KeepsRules (2 ^ 31) p) (
       within y i =
           ⊎_elim
           (λ h. ⊎_elim (in-left y (parameters m) w.variables)
-          (λ j. in-right y (parameters m) w.variables (w.added_there y (subst (λ z. IsIn y (added_to p.set z)) (sym q) j)))
+          (λ j. in-right y (parameters m) w.variables (w.added_there y (subst (λ z. IsIn y (added_to p.set z))
+          (sym q) j)))
           (in-either y (parameters m) (added_to p.set l) (in-tested _ y h)))
           (λ h. in-right y (parameters m) w.variables (w.free_there y (subst (λ z. IsIn y (I z)) (sym q)
           (subst (IsIn y) (sym (inner p order rules lines l m e)) (in-without _ (free I m.body) y i h)))))
