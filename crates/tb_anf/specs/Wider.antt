@@ -8,7 +8,7 @@ AreAtMost [] [] = Unit {0}
 AreAtMost (x ∷ xs) (y ∷ ys) = (x ≤ y) × AreAtMost xs ys
 AreAtMost xs ys = ⊥
 
--- the numbers of the second list, in the order of the first, are no less than those of the first
+-- the numbers of the first list are, one for one, at most those of the second, which are arranged in some order
 pub record AreNoWider (xs ys : List ℕ) : Type 0 where
   pub arranged : List ℕ
   pub same : (n : ℕ) → times n arranged ≡ times n ys

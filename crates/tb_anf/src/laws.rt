@@ -17,9 +17,8 @@ pub fn normal_form_keeps()
         Keeps (anf_measured (normal_form p order) input) (tree_measured p order input) 0 }
 {}
 
-/// No proc is wider than its body: the widths of the procs, of the forms and then of the lambda expressions in the
-/// order of their numbers, are at most those of the bodies of the source in that order. So the largest width and the
-/// sum of the squared widths are no larger.
+/// The procs are no wider than the bodies and forms of the source: their widths are, one for one, at most those of
+/// the source in some order. So the largest width and the sum of the squared widths are no larger.
 pub fn no_wider()
     ensures widths { (p : ProgramTree) (order : List Line) → KeepsRules (2 ^ 31) p → IsOrderOf p order →
         AreNoWider (anf.all_widths (normal_form p order)) (tree.all_widths p order) }
