@@ -37,3 +37,7 @@ pub mod FewNodes
 pub mod FreshNames
 pub mod CellsBound
 pub mod NodesKept
+pub mod BodiesKept
+pub mod Ordered
+pub mod RulesKept
+pub mod Eliminated

@@ -34,7 +34,7 @@ line_read [] s zero e = refl
 line_read [] s (suc n) e = absurd (omega arith)
 line_read (l ∷ ls) s n e = line_first l ls s n (l.site == s) e (line_read ls s n)
 
-count-all : (g : ℕ → Bool) (es : Trees) → C.count (eliminate_all g es) ≡ count es
+pub count-all : (g : ℕ → Bool) (es : Trees) → C.count (eliminate_all g es) ≡ count es
 count-all g none = refl
 count-all g (more e es) = ap (λ n. 1 + n) (count-all g es)
 

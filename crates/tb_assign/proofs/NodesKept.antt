@@ -15,11 +15,12 @@ use Rattle.tb_assign.proofs.AllNamed.{all-named}
 use Rattle.tb_assign.proofs.CellsBound.{NamesKnown, bound-to-cells, forms-names, body-names}
 use Rattle.tb_assign.proofs.Free.{AreSmall, celled-in}
 use Rattle.tb_assign.proofs.FreshNames.{named-once}
+use Rattle.tb_assign.proofs.Lines.{count-all}
 use Rattle.tb_assign.proofs.ReadyFrom.{ready-from}
 use Rattle.tb_assign.proofs.Rel.{Good}
 use Rattle.tb_assign.proofs.Standing.{lambdas-count}
 
-every-append : {X : Type 0} (P : X → Type 0) (xs ys : List X) → Every P xs → Every P ys → Every P (xs ++ ys)
+pub every-append : {X : Type 0} (P : X → Type 0) (xs ys : List X) → Every P xs → Every P ys → Every P (xs ++ ys)
 every-append P [] ys h k = k
 every-append P (x ∷ xs) ys h k = (h.0, every-append P xs ys h.1 k)
 
@@ -113,9 +114,9 @@ pub no-marks : (g : ℕ → Bool) (es : Trees) → NoMark es → K.NoMark (elimi
 no-marks g none h = tt
 no-marks g (more e es) h = (mark-same g e ∙ h.0, no-marks g es h.1)
 
-bind_mark : (g : ℕ → Bool) (p : Place) (s : ℕ) (xs : List ℕ) (e : C.Tree) → K.is_mark e ≡ false → K.is_mark (bind_cells g p s xs e) ≡ false
-bind_mark g p s [] e h = h
-bind_mark g p s (x ∷ xs) e h = refl
+pub bind-mark : (g : ℕ → Bool) (p : Place) (s : ℕ) (xs : List ℕ) (e : C.Tree) → K.is_mark e ≡ false → K.is_mark (bind_cells g p s xs e) ≡ false
+bind-mark g p s [] e h = h
+bind-mark g p s (x ∷ xs) e h = refl
 
 module _ (p : ProgramTree) (r : KeepsRules p) where
   -- a variable of a `let` that may hold the mark is a fresh one
@@ -176,10 +177,6 @@ module _ (p : ProgramTree) (r : KeepsRules p) where
   )
   read_kept q s x false lt e i = record { small_site = omega arith; in_range = tt; shaped = tt; marks_are_operands = tt; reads_cells = tt }
 
-  counted : (es : Trees) → C.count (eliminate_all (is_assigned p) es) ≡ count es
-  counted none = refl
-  counted (more e es) = ap (λ n. 1 + n) (counted es)
-
   renamed_count : (xs : List ℕ) → length (renamed (is_assigned p) xs) ≡ length xs
   renamed_count [] = refl
   renamed_count (x ∷ xs) = ap suc (renamed_count xs)
@@ -191,7 +188,7 @@ module _ (p : ProgramTree) (r : KeepsRules p) where
   same_counts [] h = tt
   same_counts (l ∷ ls) h = (same_count l h.0, same_counts ls h.1)
 
-  unmarked : (e : Tree) → is_mark e ≡ false → K.is_mark (eliminate (is_assigned p) e) ≡ false
+  pub unmarked : (e : Tree) → is_mark e ≡ false → K.is_mark (eliminate (is_assigned p) e) ≡ false
   unmarked e h = mark-same (is_assigned p) e ∙ h
 
   -- what stands for a node keeps the rules
@@ -218,8 +215,8 @@ module _ (p : ProgramTree) (r : KeepsRules p) where
         record {
           small_site = omega arith;
           in_range = tt;
-          shaped = renamed_count xs ∙ k.shaped ∙ sym (counted es);
-          marks_are_operands = (marks_of xs es (k.marks_are_operands).0, bind_mark (is_assigned p) q (let_site s) (celled (is_assigned p) xs) (eliminate (is_assigned p) e) m);
+          shaped = renamed_count xs ∙ k.shaped ∙ sym (count-all (is_assigned p) es);
+          marks_are_operands = (marks_of xs es (k.marks_are_operands).0, bind-mark (is_assigned p) q (let_site s) (celled (is_assigned p) xs) (eliminate (is_assigned p) e) m);
           reads_cells = tt;
         },
         makes-kept q (let_site s) (celled (is_assigned p) xs) (eliminate (is_assigned p) e) (omega arith)
@@ -228,26 +225,15 @@ module _ (p : ProgramTree) (r : KeepsRules p) where
   stands-kept q s (Letrec xs ls e) h = let k = (h.0).node in let lt = k.small_site in
       record { small_site = omega arith; in_range = same_counts ls k.in_range; shaped = k.shaped; marks_are_operands = (unmarked e k.marks_are_operands, tt); reads_cells = tt }
   stands-kept q s (Seq es) h = let k = (h.0).node in let lt = k.small_site in
-      record { small_site = omega arith; in_range = tt; shaped = subst (λ n. 1 ≤ n) (sym (counted es)) k.shaped; marks_are_operands = no-marks (is_assigned p) es k.marks_are_operands; reads_cells = tt }
+      record { small_site = omega arith; in_range = tt; shaped = subst (λ n. 1 ≤ n) (sym (count-all (is_assigned p) es)) k.shaped; marks_are_operands = no-marks (is_assigned p) es k.marks_are_operands; reads_cells = tt }
   stands-kept q s (Call f es) h = let k = (h.0).node in let lt = k.small_site in
       record { small_site = omega arith; in_range = tt; shaped = tt; marks_are_operands = no-marks (is_assigned p) (more f es) k.marks_are_operands; reads_cells = tt }
   stands-kept q s (PrimUse a es) h = let k = (h.0).node in let lt = k.small_site in
-      record { small_site = omega arith; in_range = tt; shaped = counted es ∙ k.shaped; marks_are_operands = no-marks (is_assigned p) es k.marks_are_operands; reads_cells = tt }
+      record { small_site = omega arith; in_range = tt; shaped = count-all (is_assigned p) es ∙ k.shaped; marks_are_operands = no-marks (is_assigned p) es k.marks_are_operands; reads_cells = tt }
   stands-kept q s (Apply f l) h = let k = (h.0).node in let lt = k.small_site in
       record { small_site = omega arith; in_range = tt; shaped = tt; marks_are_operands = no-marks (is_assigned p) (more f (more l none)) k.marks_are_operands; reads_cells = tt }
 
-  at_each : (ls : List LambdaTree) → Every (λ (l : LambdaTree). Each R l.body) ls → Every (λ (l : LambdaTree). AreSmall (parameters l) × (is_mark l.body ≡ false)) ls →
-      (n : ℕ) → length ls + n ≤ 2 ^ 24 → Every Kept (nodes_of_lambdas (eliminate_lambdas (is_assigned p) n ls))
-  at_each [] h k n lt = tt
-  at_each (l ∷ ls) h k n lt =
-      every-append Kept (nodes (with_cells (is_assigned p) l.place (body_site n) (parameters l) (eliminate (is_assigned p) l.body))) _
-      (every-bind Kept (is_assigned p) l.place (body_site n) (celled (is_assigned p) (parameters l)) (eliminate (is_assigned p) l.body)
-      (makes-kept l.place (body_site n) (celled (is_assigned p) (parameters l)) (eliminate (is_assigned p) l.body) (omega arith)
-      (λ y i. (k.0).0 y (celled-in (is_assigned p) (parameters l) y i).0) (unmarked l.body (k.0).1))
-      (every-tree Kept (is_assigned p) R stands-kept l.body h.0))
-      (at_each ls h.1 k.1 (suc n) (omega arith))
-
-  each_lambda : (Q : LambdaTree → Type 0) (ls : List LambdaTree) →
+  pub each_lambda : (Q : LambdaTree → Type 0) (ls : List LambdaTree) →
       ((n : ℕ) (l : LambdaTree) → slice_get ls n ≡ Some l → Q l) → Every Q ls
   each_lambda Q [] h = tt
   each_lambda Q (l ∷ ls) h = (h 0 l refl, each_lambda Q ls (λ n m e. h (suc n) m e))
@@ -259,14 +245,36 @@ module _ (p : ProgramTree) (r : KeepsRules p) where
       own_node : (e : Tree) → 1 ≤ size e
       own_node (Node q s f) = omega arith
 
+  -- what holds of what stands for each node, and of what makes the cells of parameters, holds of all nodes
+  module _ (P : ℕ → Form → Type 0) (Q : C.Tree → Type 0)
+      (stand : (q : Place) (s : ℕ) (f : Form) → P s f → StandsFor Q (is_assigned p) q s f)
+      (makes : (q : Place) (n : ℕ) (xs : List ℕ) (e : C.Tree) → n < 2 ^ 24 → AreSmall xs → K.is_mark e ≡ false →
+      Makes Q (is_assigned p) q (body_site n) xs e) where
+    at_each : (ls : List LambdaTree) → Every (λ (l : LambdaTree). Each P l.body) ls → Every (λ (l : LambdaTree). AreSmall (parameters l) × (is_mark l.body ≡ false)) ls →
+        (n : ℕ) → length ls + n ≤ 2 ^ 24 → Every Q (nodes_of_lambdas (eliminate_lambdas (is_assigned p) n ls))
+    at_each [] h k n lt = tt
+    at_each (l ∷ ls) h k n lt =
+        every-append Q (nodes (with_cells (is_assigned p) l.place (body_site n) (parameters l) (eliminate (is_assigned p) l.body))) _
+        (every-bind Q (is_assigned p) l.place (body_site n) (celled (is_assigned p) (parameters l)) (eliminate (is_assigned p) l.body)
+        (makes l.place n (celled (is_assigned p) (parameters l)) (eliminate (is_assigned p) l.body) (omega arith)
+        (λ y i. (k.0).0 y (celled-in (is_assigned p) (parameters l) y i).0) (unmarked l.body (k.0).1))
+        (every-tree Q (is_assigned p) P stand l.body h.0))
+        (at_each ls h.1 k.1 (suc n) (omega arith))
+
+    pub everywhere : EachAll P p.forms → Every (λ (l : LambdaTree). Each P l.body) p.lambdas → Every Q (all_nodes (cells_of p))
+    everywhere f b =
+        let ready = ready-from p r (all-named p r) in
+        let few = bodies_fewer p.lambdas in
+        let less = r.few_nodes in
+        every-append Q (nodes_of (eliminate_all (is_assigned p) p.forms)) _
+        (every-all Q (is_assigned p) P stand p.forms f)
+        (at_each p.lambdas b
+        (each_lambda (λ l. AreSmall (parameters l) × (is_mark l.body ≡ false)) p.lambdas (λ n l e. ((ready.binds n l e).small, ready.values n l e)))
+        0 (omega arith))
+
   pub nodes-kept : Every Kept (all_nodes (cells_of p))
   nodes-kept =
       let ready = ready-from p r (all-named p r) in
-      let few = bodies_fewer p.lambdas in
-      let less = r.few_nodes in
-      every-append Kept (nodes_of (eliminate_all (is_assigned p) p.forms)) _
-      (every-all Kept (is_assigned p) R stands-kept p.forms (Both.both_all (Good p) (NamesKnown (inner_free p) (variables p)) p.forms ready.forms (forms-names p r)))
-      (at_each p.lambdas
+      everywhere R Kept stands-kept (λ q n xs e lt. makes-kept q (body_site n) xs e (omega arith))
+      (Both.both_all (Good p) (NamesKnown (inner_free p) (variables p)) p.forms ready.forms (forms-names p r))
       (each_lambda (λ l. Each R l.body) p.lambdas (λ n l e. Both.both (Good p) (NamesKnown (inner_free p) (variables p)) l.body (ready.bodies n l e) (body-names p r n l e)))
-      (each_lambda (λ l. AreSmall (parameters l) × (is_mark l.body ≡ false)) p.lambdas (λ n l e. ((ready.binds n l e).small, ready.values n l e)))
-      0 (omega arith))

@@ -254,10 +254,10 @@ module _ (g lined : ℕ → Bool) (own : ℕ → ℕ) (unlined : (s : ℕ) → 2
       by_test false rest = rest l n
 
 module _ (p : ProgramTree) (r : KeepsRules p) where
-  abbrev lined_at : ℕ → Bool
+  abbrev pub lined_at : ℕ → Bool
   lined_at s = is_lined (T.line_of (order_of p) s)
 
-  abbrev enough : ℕ → ℕ
+  abbrev pub enough : ℕ → ℕ
   enough w = times w (map (λ (l : Line). l.site) (order_of p))
 
   fit : (s : ℕ) (f : Form) → NodeKeeps p s f × HasOne enough s f → ((has_order f ≡ true → lined_at s ≡ true) × IsShaped f)
@@ -269,15 +269,15 @@ module _ (p : ProgramTree) (r : KeepsRules p) where
   unlined_at : (s : ℕ) → 2 ^ 24 ≤ s → lined_at s ≡ false
   unlined_at s le = ap is_lined ((ready-from p r (all-named p r)).lines_small s le)
 
-  abbrev FitHere : ℕ → Form → Type 0
+  abbrev pub FitHere : ℕ → Form → Type 0
   FitHere s f = (has_order f ≡ true → lined_at s ≡ true) × IsShaped f
 
-  forms_fit : EachAll FitHere p.forms
+  pub forms_fit : EachAll FitHere p.forms
   forms_fit = all-then (λ s f. NodeKeeps p s f × HasOne enough s f) FitHere fit p.forms
       (Kept.both_all (NodeKeeps p) (HasOne enough) p.forms r.forms
       (all-lined enough p.forms (λ w. let h = lines-enough p w r in omega arith)))
 
-  bodies_fit : (ls : List LambdaTree) → Every (LambdaKeeps p) ls → Every (λ (l : LambdaTree). Each (HasOne enough) l.body) ls →
+  pub bodies_fit : (ls : List LambdaTree) → Every (LambdaKeeps p) ls → Every (λ (l : LambdaTree). Each (HasOne enough) l.body) ls →
       Every (λ (l : LambdaTree). Each FitHere l.body) ls
   bodies_fit [] h k = tt
   bodies_fit (l ∷ ls) h k = (

@@ -1,20 +1,30 @@
 //! Bodies in which each variable that is assigned is a cell.
-ghost use Rattle.std.specs.Prelude.{◌≡◌, ◌+◌, ◌≤◌, ◌^◌, map, if◌then◌else◌, IfOk};
+ghost use Rattle.std.specs.Prelude.{◌≡◌, ◌+◌, ◌≤◌, ◌^◌, ℕ, List, map, if◌then◌else◌, IfOk};
+ghost use Rattle.tb_semantics.specs.Keeps.{Keeps};
 ghost use Rattle.tb_core.specs.FreeVariables.{is_assigned};
+ghost use Rattle.tb_core.specs.Measures.{reference_measured};
+ghost use Rattle.tb_core.specs.OperandOrder.{order_of};
+ghost use Rattle.tb_core.specs.Order.{view_line};
 ghost use Rattle.tb_core.specs.Plain as core;
 ghost use Rattle.tb_core.specs.Tree.{parameters};
 ghost use Rattle.tb_core.specs.View.{view_program};
+ghost use Rattle.tb_core.specs.Width as core_width;
 ghost use Rattle.tb_core.specs.calls.Marks.{is_marked};
+ghost use Rattle.tb_ir.specs.Measures.{tree_measured};
 ghost use Rattle.tb_ir.specs.Plain.{trees, view, view_core, view_lambda};
+ghost use Rattle.tb_ir.specs.Rules.{IsOrderOf};
 ghost use Rattle.tb_ir.specs.Tree as tree;
+ghost use Rattle.tb_ir.specs.View.{view_cells};
+ghost use Rattle.tb_ir.specs.Width.{all_widths};
 ghost use Rattle.tb_assign.specs.Eliminate as spec;
 ghost use Rattle.tb_assign.specs.calls.Cells.{made};
 
+use super::copies::{copy_names, copy_statics};
 use super::targets::{MAX_DEPTH, assigned_table, levels_below};
 use sqlite_items::Boxed;
 use std::alloc::Global;
-use tb_core::{Core, Expr, Lambda, LambdaId, Program, Site, VarId};
-use tb_ir::{CellCore, CellExpr, CellExprRow, CellLambda, CellLambdaRow};
+use tb_core::{Core, Expr, Lambda, LambdaId, Order, Program, Site, VarId};
+use tb_ir::{CellCore, CellExpr, CellExprRow, CellLambda, CellLambdaRow, CellProgram};
 use tb_prim::{NoMemory, Place, Row};
 
 /// The first number of a fresh variable, and of the site of a new `let`: all numbers of a program are below.
@@ -388,24 +398,23 @@ fn eliminate_lambdas(
     Ok(Row::from_vec(out))
 }
 
-/// The lambda expressions of a program in which each variable that is assigned is a cell, in the order of their
-/// numbers. Linear in the nodes. Want of memory is also the answer where nodes nest deeper than 1,000.
-pub fn cell_lambdas(alloc: Global, program: &Program) -> Result<CellLambdaRow, NoMemory>
-    ensures { IfOk result (λ row. map view_lambda row ≡ (spec.cells_of (view_program program.now)).lambdas) }
+/// The program in which each variable that is assigned is a cell, for a program and its own order. Linear in the
+/// nodes. Want of memory is also the answer where nodes nest deeper than 1,000, which `check` refuses.
+pub fn eliminate(alloc: Global, program: &Program, order: &Order) -> Result<CellProgram, NoMemory>
+    requires { map view_line order.now ≡ order_of (view_program program.now) }
+    ensures cells { IfOk result (λ cells. view_cells cells ≡ spec.cells_of (view_program program.now)) }
+    ensures keeps { IfOk result (λ cells. (input : List ℕ) → Keeps (tree_measured (view_cells cells) (map view_line order.now) input) (reference_measured (view_program program.now) (map view_line order.now) input) 0) }
+    ensures is_order { IfOk result (λ cells. IsOrderOf (view_cells cells) (map view_line order.now)) }
+    ensures no_wider { IfOk result (λ cells. all_widths (view_cells cells) (map view_line order.now) ≡ core_width.all_widths (view_program program.now)) }
 {
     let assigned = assigned_table(alloc, program)?;
-    eliminate_lambdas(alloc, assigned.as_slice(), program.lambdas.as_slice())
-}
-
-/// The same of the top-level forms.
-pub fn cell_forms(alloc: Global, program: &Program) -> Result<CellExprRow, NoMemory>
-    ensures { IfOk result (λ row. trees (map view row) ≡ (spec.cells_of (view_program program.now)).forms) }
-{
-    let assigned = assigned_table(alloc, program)?;
-    eliminate_all(
-        alloc,
-        assigned.as_slice(),
-        MAX_DEPTH,
-        program.forms.as_slice(),
-    )
+    let assigned = assigned.as_slice();
+    let lambdas = eliminate_lambdas(alloc, assigned, program.lambdas.as_slice())?;
+    let forms = eliminate_all(alloc, assigned, MAX_DEPTH, program.forms.as_slice())?;
+    Ok(CellProgram {
+        globals: copy_names(alloc, program.globals.as_slice())?,
+        statics: copy_statics(alloc, program.statics.as_slice())?,
+        lambdas,
+        forms,
+    })
 }

@@ -1,12 +1,12 @@
 //! Assignment elimination: each variable that is assigned becomes a cell. The program with cells is a function of
-//! the source, `cells_of` in `specs/Eliminate`; `laws` says that it keeps its source, and that no body is wider.
-//! `cell_forms` and `cell_lambdas` compute its parts.
+//! the source, `cells_of` in `specs/Eliminate`, and `eliminate` computes it; `laws` says what it keeps.
 #![tactic(auto)]
 
+mod copies;
 mod elimination;
 mod examples;
 pub mod laws;
 mod targets;
 
-pub use elimination::{cell_forms, cell_lambdas};
-pub use examples::worked_programs;
+pub use elimination::eliminate;
+pub use examples::{worked_cells, worked_programs, worked_trees};

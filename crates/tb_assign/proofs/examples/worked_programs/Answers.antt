@@ -1,9 +1,6 @@
 use Rattle.std.proofs.Common.{refl}
 use Rattle.tb_assign.proofs.examples.worked_programs.Goals as goal
 
-pub returns-clause-form : goal.returns-clause-form
-returns-clause-form c = refl
-
 pub returns-clause-assigned_capture : goal.returns-clause-assigned_capture
 returns-clause-assigned_capture c = (70, refl)
 
