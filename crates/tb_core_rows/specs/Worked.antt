@@ -4,7 +4,7 @@ use Rattle.tb_prim.specs.declared.constant.Const.{Const}
 use Rattle.tb_prim.specs.declared.constant.Static.{Static}
 use Rattle.tb_prim.specs.declared.primitive.Primitive.{Primitive}
 use Rattle.tb_core.specs.Examples.{lambda, lambda_at, let_one, local, node, number, one, prim, program, sequence, three, two}
-use Rattle.tb_core.specs.Tree.{Tree, Let, Quote, more, LambdaTree, ProgramTree}
+use Rattle.tb_core.specs.Tree.{Tree, Let, Quote, SetLocal, more, LambdaTree, ProgramTree}
 
 -- '(2)
 abbrev pub cons_statics : List Static
@@ -26,3 +26,10 @@ uses_lambda = lambda_at 20 (2 ∷ []) None (sequence 32 (more (local 39 1) (thre
 
 abbrev pub uses_program : ProgramTree
 uses_program = program 0 [] (uses_lambda ∷ []) (one uses_form)
+
+-- (let ((a 1)) (begin (set! a 2) a))
+abbrev pub assigned_form : Tree
+assigned_form = let_one 1 0 (number 10 1) (sequence 14 (two (node 21 (SetLocal 0 (number 29 2))) (local 32 0)))
+
+abbrev pub assigned_program : ProgramTree
+assigned_program = program 0 [] [] (one assigned_form)

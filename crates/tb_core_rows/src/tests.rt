@@ -2,9 +2,10 @@ ghost use Rattle.std.specs.Prelude.{◌≤◌, IfSome};
 
 use super::programs::{call_of, deep, forms_of, lambda_of, wide_let};
 use super::trees::spot;
-use super::worked::{cons_of_car, uses_in_lambda};
+use super::worked::{assigned_variable, cons_of_car, uses_in_lambda};
 use std::alloc::Global;
 use std::test::Fail;
+use tb_assign::eliminate;
 use tb_core::{CoreRefusal, check, free_vars, operand_order};
 use tb_prim::NoMemory;
 
@@ -191,5 +192,14 @@ fn free_variables(rt: HostRuntime) -> Result<(), Fail> {
     let program = uses_in_lambda(rt.alloc())?;
     let free = free_vars(rt.alloc(), &program, 0)?;
     assert_eq!(rt; free.as_slice(), [1, 0].as_slice());
+    Ok(())
+}
+
+#[test]
+fn cells_of_assigned(rt: HostRuntime) -> Result<(), Fail> {
+    let program = assigned_variable(rt.alloc())?;
+    let order = operand_order(rt.alloc(), &program)?;
+    let cells = eliminate(rt.alloc(), &program, &order)?;
+    assert_eq!(rt; cells.forms.as_slice().len(), 1);
     Ok(())
 }

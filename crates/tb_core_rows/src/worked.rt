@@ -3,7 +3,7 @@ ghost use Rattle.tb_core.specs.Examples as example;
 ghost use Rattle.tb_core.specs.Rules.{KeepsRules};
 ghost use Rattle.tb_core.specs.Tree as tree;
 ghost use Rattle.tb_core.specs.View.{view, view_lambda, trees};
-ghost use Rattle.tb_core_rows.specs.Worked.{cons_form, cons_program, cons_statics, uses_form, uses_lambda, uses_program};
+ghost use Rattle.tb_core_rows.specs.Worked.{assigned_form, assigned_program, cons_form, cons_program, cons_statics, uses_form, uses_lambda, uses_program};
 
 use super::trees::{node, of_one, spot};
 use sqlite_items::Boxed;
@@ -15,6 +15,7 @@ use tb_prim::{Const, NoMemory, Prim, Row, Static};
 pub fn worked_rules()
     ensures cons { KeepsRules cons_program }
     ensures uses { KeepsRules uses_program }
+    ensures assigned { KeepsRules assigned_program }
 {}
 
 #[tactic(auto, using(crate::proofs::Shown::viewing))]
@@ -107,4 +108,39 @@ pub fn uses_in_lambda(alloc: Global) -> Result<Program, NoMemory>
     let lambdas = vec![in alloc; uses_inner(alloc)?]?;
     worked_rules();
     of_one(alloc, Vec::new(alloc), lambdas, form)
+}
+
+#[tactic(auto, using(crate::proofs::Shown::viewing))]
+fn set(alloc: Global, number: u32, variable: VarId, value: Expr) -> Result<Expr, NoMemory>
+    ensures { IfOk result (λ e. view e ≡ example.node number (tree.SetLocal variable (view value))) }
+{
+    let value = Boxed::new(alloc, value)?;
+    Ok(node(number, Core::SetLocal(variable, value)))
+}
+
+/// `(begin (set! a 2) a)`
+#[tactic(auto, using(crate::proofs::Shown::viewing))]
+fn assigned_body(alloc: Global) -> Result<Expr, NoMemory>
+    ensures { IfOk result (λ e. view e ≡ example.sequence 14 (example.two (example.node 21 (tree.SetLocal 0 (example.number 29 2))) (example.local 32 0))) }
+{
+    let assignment = set(alloc, 21, 0, quote(29, Const::Fix(2)))?;
+    let exprs = vec![in alloc; assignment, local(32, 0)]?;
+    Ok(node(14, Core::Seq(Row::from_vec(exprs))))
+}
+
+/// `(let ((a 1)) (begin (set! a 2) a))`
+#[tactic(auto, using(crate::proofs::Shown::viewing))]
+fn assigned_tree(alloc: Global) -> Result<Expr, NoMemory>
+    ensures { IfOk result (λ e. view e ≡ assigned_form) }
+{
+    let body = assigned_body(alloc)?;
+    let value = vec![in alloc; quote(10, Const::Fix(1))]?;
+    let_of(alloc, 1, vec![in alloc; 0]?, value, body)
+}
+
+/// A program of that form.
+pub fn assigned_variable(alloc: Global) -> Result<Program, NoMemory> {
+    let form = assigned_tree(alloc)?;
+    worked_rules();
+    of_one(alloc, Vec::new(alloc), Vec::new(alloc), form)
 }
