@@ -3,7 +3,7 @@ use Rattle.std.proofs.Common.{◌≡◌, refl, sym, ap, ◌∙◌, subst, ℕ, s
 use Rattle.tb_prim.specs.declared.place.Place.{Place}
 use Rattle.tb_prim.specs.declared.constant.Const.{Const}
 use Rattle.tb_semantics.specs.Graph.{IsIn}
-use Rattle.tb_core.specs.Tree.{Tree, Node, Form, Quote, Local, Global, Lambda, If, SetLocal, SetGlobal, DefGlobal, Let, Letrec, Seq, Call, PrimUse, Apply, Trees, none, more, count, LambdaTree, ProgramTree, parameters}
+use Rattle.tb_core.specs.Tree.{Tree, Node, Form, Quote, Local, Global, Lambda, If, SetLocal, SetGlobal, DefGlobal, Let, Letrec, Seq, Call, PrimUse, Apply, Trees, none, more, LambdaTree, ProgramTree, parameters}
 use Rattle.tb_core.specs.FreeVariables.{inner_free, is_assigned}
 use Rattle.tb_core.specs.Rules.{Every, Each, EachForm, EachAll, KeepsRules, NoMark, MarksAssigned, is_mark, size, size_of_lambdas, variables}
 use Rattle.tb_core.proofs.Kept as Both
