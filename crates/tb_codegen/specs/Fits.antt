@@ -1,0 +1,21 @@
+-- The limits of a program from which code is made: registers 1 to 12 hold operands, and a character is a byte.
+use Rattle.std.specs.Prelude.{◌<◌, ◌≤◌, List, [], length}
+use Rattle.tb_prim.specs.declared.constant.Const.{Const}
+use Rattle.tb_core.specs.Rules.{Every}
+use Rattle.tb_ir.specs.AnfTree.{Operand, Quote, Var, Op, Call, Direct, ProcTree, AnfTree}
+use Rattle.tb_ir.specs.AnfRules.{atoms, operations}
+
+-- what a call passes
+abbrev pub passed_by : Op → List Operand
+passed_by (Call f ds p) = ds
+passed_by (Direct l ds) = ds
+passed_by op = []
+
+abbrev pub IsByte : Operand → Type 0
+IsByte (Quote (Const.Char c)) = c < 256
+IsByte a = Unit {0}
+
+pub record Fits (p : AnfTree) : Type 0 where
+  pub few_operands : Every (λ op. length (passed_by op) ≤ 12) (operations p)
+  pub few_params : Every (λ (q : ProcTree). length q.params ≤ 12) p.procs
+  pub bytes : Every (λ op. Every IsByte (atoms op)) (operations p)
