@@ -9,7 +9,9 @@ use Rattle.tb_prim.specs.declared.constant.Const.{Const}
 use Rattle.tb_prim.specs.declared.constant.Static.{Static}
 use Rattle.tb_semantics.specs.Graph.{IsApart, IsIn}
 use Rattle.tb_semantics.proofs.ListLemmas.{in-right}
-use Rattle.tb_ir.specs.AnfTree.{Block, Op, AnfTree}
+use Rattle.tb_ir.specs.AnfMachine.{proc_of}
+use Rattle.tb_mac.specs.LiveWords.{is_lifted}
+use Rattle.tb_ir.specs.AnfTree.{Block, Op, ProcTree, AnfTree}
 use Rattle.tb_mac.specs.declared.code.Instr.{Instr}
 use Rattle.tb_mac.specs.declared.code.Instr.TheVariants as I
 use Rattle.tb_mac.specs.declared.code.LiveMap.{LiveMap}
@@ -114,7 +116,7 @@ module _ (p : AnfTree) (T F U G : ℕ → Note → Type 0) (a : ℕ → ℕ) (t 
   ok_at i q n o (ok_filled e s1 s2 from) = ok_filled e s1 s2 from
   ok_at i q n o (ok_first lt w e h ap_x l st into ow) = ok_first lt w e (t _ _ h) ap_x l st into (onward_at p a _ _ _ _ _ _ _ _ _ ow)
   ok_at i q n o (ok_next lt w e h g1 g2 g3 long into ow) = ok_next lt w e (t _ _ h) g1 g2 g3 long into (onward_at p a _ _ _ _ _ _ _ _ _ ow)
-  ok_at i q n o (ok_stored z lt st into ow) = ok_stored z lt st into (onward_at p a _ _ _ _ _ _ _ _ _ ow)
+  ok_at i q n o (ok_stored z lt st into long ow) = ok_stored z lt st into long (onward_at p a _ _ _ _ _ _ _ _ _ ow)
   ok_at i q n o (ok_word j x y m g1 g2 g3 g4 long s1 s2 from ow) = ok_word j x y m g1 g2 g3 g4 long s1 s2 from (onward_at p a _ _ _ _ _ _ _ _ _ ow)
 
 -- an item says one thing
@@ -389,8 +391,9 @@ module _ (p : AnfTree) (all : List Noted) (apart : IsApart (labels (items_of all
 -- the code of a program follows the notes of its items
 pub code-follows : (p : AnfTree) → IsApart (labels (items_of (noted_items p))) → (start : Option Note) →
     Chain p (noted_items p) [] start (noted_items p) None →
+    ((m : ℕ) (q : ProcTree) → proc_of p.procs m ≡ Some q → is_lifted (code_of p).parts.lambdas m ≡ q.lifted) →
     Follows p (notes_of (number_of (items_of (noted_items p))) (noted_items p)) (code_of p)
-code-follows p apart start whole = record {
+code-follows p apart start whole found = record {
   each = λ pc n g.
     let w = walk p (noted_items p) apart start whole 0 [] (noted_items p) start pc n refl refl whole g in
     let z : 0 + pc ≡ pc = omega arith in
@@ -405,4 +408,5 @@ code-follows p apart start whole = record {
     ∙ slice_get-map note_map (notes_of (number_of (items_of (noted_items p))) (noted_items p)) pc ∙ ap (option_map note_map) g;
   globals = refl;
   statics = refl;
+  lambdas = found;
 }

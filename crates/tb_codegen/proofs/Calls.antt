@@ -156,7 +156,7 @@ module _ (p : AnfTree) (notes : List Note) (limit : ℕ) where
     n_cell : (v : Value) → NoClo (Cell v)
     n_object : (o : Object) → NoClo (Obj o)
 
-  no_procedure : (heap : Heap) (t a : ℕ) (i : Item) → t ≡ tag_of i → NoClo i → procedure_at heap (W.Pointer t a) ≡ None
+  pub no_procedure : (heap : Heap) (t a : ℕ) (i : Item) → t ≡ tag_of i → NoClo i → procedure_at heap (W.Pointer t a) ≡ None
   no_procedure heap t a i e (n_cell v) = rw e refl
   no_procedure heap t a i e (n_object (Pair u v)) = rw e refl
   no_procedure heap t a i e (n_object (Vec vs)) = rw e refl

@@ -185,6 +185,7 @@ module _ (p : AnfTree) (notes : List Note) where
           held = p_agree w z (λ k i. inr i) heap (heap ++ ws) 0 (length globals) (length globals) globals (omega arith) (agree_left heap ws 0 (length globals)) mem.held;
           count = mem.count;
           inputs = mem.inputs;
+          padded = λ k a b. get-left heap ws k _ (mem.padded k a b);
           statics = λ n s e. let q = mem.statics n s e in (q.0, q.1, inr q.2);
         }
 
@@ -257,6 +258,7 @@ module _ (p : AnfTree) (notes : List Note) where
           held = p_agree w w (λ k i. i) heap (slice_set heap k u) 0 (length globals) (length globals) globals (omega arith) (agree_set heap k u 0 (length globals) (inr (omega arith))) mem.held;
           count = mem.count;
           inputs = mem.inputs;
+          padded = λ n a b. get-set-other heap k n _ u (λ q. absurd (omega arith)) (mem.padded n a b);
           statics = mem.statics;
         }
 

@@ -209,7 +209,7 @@ module _ (p : AnfTree) (all : List Noted) (home : ℕ → ℕ) (size : ℕ) wher
         (subst (λ zs. slice_get zs (length (d ∷ ds)) ≡ Some y) e (get-here (d ∷ ds) ys y)) at_m (zeros-get ls _ m at_m) long
         (put-into (Reg 16) (IsThat (Variable 0 y)) (Variable 0 y) (G (d ∷ ds)) (g-none (d ∷ ds) 16) is_that) not_yet)
         (c_does
-        (ok_stored (Variable 0 y) h.0.small (inl refl) (store-into (d ∷ ds) y h.0)
+        (ok_stored (Variable 0 y) h.0.small (inl refl) (store-into (d ∷ ds) y h.0) long
         (stored-onward (d ∷ ds) ms y (suc (length (d ∷ ds))) (sym (length-last (d ∷ ds) y)) last))
         (makes-chain rest d (ds ++ y ∷ []) ys (dms ++ m ∷ []) ms (append_assoc (d ∷ ds) (y ∷ []) ys ∙ e)
         (append_assoc dms (m ∷ []) ms ∙ f) (length-last (d ∷ ds) y ∙ ap suc n ∙ sym (length-last dms m)) w.1 h.1))
@@ -366,7 +366,7 @@ module _ (p : AnfTree) (all : List Noted) (home : ℕ → ℕ) (size : ℕ) wher
           (in-left (of_lambdas (captured_in p) all_ls) _ y (subst (IsIn y) (catches-same all_ls) i))) })
       first-into not_yet)
       (c_does
-      (ok_stored (Variable 0 x) h.0.small (inl refl) (store-into all_xs all_ls k js ws long apart named eq em [] x h.0)
+      (ok_stored (Variable 0 x) h.0.small (inl refl) (store-into all_xs all_ls k js ws long apart named eq em [] x h.0) long
       (stored-onward all_xs all_ls k js ws long apart named eq em [] ls x 1 refl last))
       (makes-chain all_xs all_ls k js ws long apart named eq em (writes c all_xs all_ls k js [] all_xs all_ls ++ rest) x [] xs (m ∷ []) ls refl refl refl w.1 h.1)))
       (writes-chain all_xs all_ls k js ws long apart named eq em rest [] all_xs [] all_ls refl refl refl)

@@ -23,18 +23,18 @@ use Rattle.tb_mac.specs.Frames.{Frame as MacFrame, framed_perform}
 use Rattle.tb_mac.specs.FramedRuns.{framed_after}
 use Rattle.tb_mac.specs.LiveWords.{closure_count, data_size, object_size as words_from}
 use Rattle.tb_mac.specs.Objects.{new_procedure, procedure_kind, procedure_tag}
-use Rattle.tb_codegen.specs.Notes.{Entry, Stands, Spot, Reg, Slot, Symbol, Constant, Variable, Own, Note, Inside, Point, AtBlock, AtAll, AtProc, Waiting}
+use Rattle.tb_codegen.specs.Notes.{Entry, Stands, Spot, Reg, Slot, Symbol, Constant, Variable, Own, Here, Note, Inside, Point, AtBlock, AtAll, AtProc, Waiting}
 use Rattle.tb_codegen.specs.Generate.{captured_in, settled, zeros}
 use Rattle.tb_codegen.proofs.Cells.{at_end, at_next}
-use Rattle.tb_codegen.proofs.Changes.{From, Into, IsThat, is_that, Kept, k_const, k_var, k_deep, Same, Under}
+use Rattle.tb_codegen.proofs.Changes.{From, Into, IsThat, StandsAt, is_that, Kept, k_const, k_var, k_deep, Same, Under}
 use Rattle.tb_codegen.proofs.Closures.{Half, half, filled_more, captured_there, in_procedure, long_procedure, mem_fill, procedure_made, p_fill, Values, values_of}
 use Rattle.tb_codegen.proofs.Envs.{get-in, get-set, get-set-other, get-within, lookup-gather, lookup-other, lookup-same}
-use Rattle.tb_codegen.proofs.Holding.{Changes, fs-more, holds-from, holds-into, Puts, same-means, under}
+use Rattle.tb_codegen.proofs.Holding.{Changes, fs-more, holds-from, holds-into, holds-slot, moved, Puts, same-means, under}
 use Rattle.tb_codegen.proofs.Landing.{lands_block}
 use Rattle.tb_codegen.proofs.Memories.{agree_left, p_agree}
 use Rattle.tb_codegen.proofs.Moves.{done}
 use Rattle.tb_codegen.proofs.Ok.{catches, Entered, Fulls, HasNote, Onward, not_yet, all_done, Settles, StandOr, free}
-use Rattle.tb_codegen.proofs.Rel.{AllFacts, Caps, Closed, Fill, Grows, FsRel, globals_words, HasAny, Holds, JRel, Link, Lk, Linked, Means, m_name, Memory, Open, OpenAll, ORel, o_cell, o_pair, o_vector, o_string, o_symbol, o_procedure, OwnRel, IsBefore, IsCut, Part, PRel, PtRel, at_block, at_all, r_full, r_inside, Rel, Stores, Whole, World, WRel, w_at, env_at, fill_of, filled, first_of, open_of, part_of, step_of, tag_of, unmade}
+use Rattle.tb_codegen.proofs.Rel.{AllFacts, Caps, Closed, Fill, Grows, FsRel, globals_words, HasAny, Holds, JRel, Link, Lk, Linked, Means, m_name, Memory, Open, OpenAll, ORel, o_here, o_cell, o_pair, o_vector, o_string, o_symbol, o_procedure, OwnRel, IsBefore, IsCut, Part, PRel, PtRel, at_block, at_all, r_full, r_inside, Rel, Stores, Whole, World, WRel, w_at, env_at, fill_of, filled, first_of, open_of, part_of, step_of, tag_of, unmade}
 use Rattle.tb_codegen.proofs.Sim.{Mem, Sim, Still, machine, source, target}
 use Rattle.tb_codegen.proofs.Stored.{stores_new}
 
@@ -125,6 +125,7 @@ module _ (p : AnfTree) (notes : List Note) where
     held = mem.held;
     count = mem.count;
     inputs = mem.inputs;
+    padded = mem.padded;
     statics = mem.statics;
   }
     where
@@ -207,6 +208,7 @@ module _ (p : AnfTree) (notes : List Note) where
             held = p_agree w z (λ k i. inr i) x.heap (x.heap ++ new_procedure n l) 0 (length x.globals) (length x.globals) x.globals (omega arith) (agree_left x.heap (new_procedure n l) 0 (length x.globals)) mem1.held;
             count = mem1.count;
             inputs = mem1.inputs;
+            padded = λ k a b. get-left x.heap (new_procedure n l) k _ (mem1.padded k a b);
             statics = λ n s e. let q = mem1.statics n s e in (q.0, q.1, inr q.2);
           } in
           let hh = holds-into p x.st x.st w z (λ k i. inr i) (q ∷ rs) (q ∷ rs) x.regs slots d _ _ mid old u (omega arith) h into
@@ -269,6 +271,25 @@ module _ (p : AnfTree) (notes : List Note) where
               subst (λ o. Memory p notes w o x.heap x.st x.globals x.ahead x.input x.cin x.met) (opens_at l0 made ns xs k q ls js facts.start) mem in
           let hh = holds-from p x.st x.st w w (λ k i. i) (q ∷ rs) (q ∷ rs) x.regs slots Same mid old h from (same-means p x.st (q ∷ rs)) in
           word_at x a b i l0 q ha.word hb.word hb.value (subst (λ v. WRel w ha.word v) va ha.rel) ha.here hb.here hb.rel (named_value x.st q rs y hb.value hb.means) al an ac long on next facts jr hh o f mem1 len within
+
+      -- the last of the procedures goes to its slot, and nothing is captured
+      pub step_stored : (x : Still) {w : World} {s a size made : ℕ} {ns xs ls : List ℕ} {k : Block} {js : Waiting} {old mid : List Entry} {new : Note}
+          {rs : List Env} {control : Control Code} {gs fs : AnfFrames} {slots : List Word} {top ms : List MacFrame} (z : Symbol) →
+          s < size → IsIn (Stands (Reg a) z) old → Into (Slot s) (StandsAt (Reg a) old) Same mid old → length xs ≡ length ls →
+          Onward p (Here size) mid made ns xs ls k js new → HasNote p notes (x.pc + 1) new →
+          PtRel p notes x.st (AtAll made ns xs ls k js) rs gs fs control → Holds p x.st w rs x.regs slots old → OwnRel (Here size) slots top ms → FsRel p notes w fs ms →
+          Mem p notes limit w (AtAll made ns xs ls k js) control x → length x.regs ≡ 17 → x.pc < limit →
+          Sim p notes limit (done p notes limit c x top (I.Store a s)) (limit - x.pc) (source p notes limit x control gs)
+      step_stored x {w = w} {s = s} {a = a} {made = made} {ns = ns} {xs = xs} {ls = ls} {k = k} {js = js} {old = old} {mid = mid} {slots = slots} z lt i into long on next (at_all l0 _ _ _ _ _ q {rs = rs} jr facts) h (o_here e) f mem len within =
+          let v = h.holds (Reg a) z i in
+          let few : s < length slots = omega arith in
+          let hh = holds-slot p x.st x.st w (q ∷ rs) (q ∷ rs) x.regs slots s _ _ mid old v.word few h into
+              (moved p w (q ∷ rs) x.regs slots old (Reg a) v.word x.st h v.here) (same-means p x.st (q ∷ rs)) in
+          let mem1 : Memory p notes w (OpenAll l0 made ns) x.heap x.st x.globals x.ahead x.input x.cin x.met =
+              subst (λ o. Memory p notes w o x.heap x.st x.globals x.ahead x.input x.cin x.met) (opens_at l0 made ns xs k q ls js facts.start) mem in
+          let on2 : x.pc < x.pc + 1 = omega arith in
+          rw (lt-ltb s (length slots) few, v.here)
+          (onward x (record x { pc = x.pc + 1 }) l0 q _ 0 on next refl (inr (on2, within)) long facts jr hh (o_here (length-set slots s v.word ∙ e)) f mem1 len)
 
       true_false : true ≡ false → ⊥
       true_false e = cc
@@ -372,6 +393,7 @@ module _ (p : AnfTree) (notes : List Note) where
             held = p_agree w z (λ k i. inr i) x.heap (x.heap ++ new_procedure n l) 0 (length x.globals) (length x.globals) x.globals (omega arith) (agree_left x.heap (new_procedure n l) 0 (length x.globals)) mem.held;
             count = mem.count;
             inputs = mem.inputs;
+            padded = λ k a b. get-left x.heap (new_procedure n l) k _ (mem.padded k a b);
             statics = λ n s e. let q = mem.statics n s e in (q.0, q.1, inr q.2);
           } in
           let hh = holds-into p x.st st2 w z (λ k i. inr i) (r ∷ rs) (q ∷ rs) x.regs slots d _ _ mid old u (omega arith) h into

@@ -17,6 +17,10 @@ pub mod Procs
 pub mod Programs
 pub mod Labels
 pub mod Following
+pub mod Ranges
+pub mod Fields
+pub mod AllFields
+pub mod Bounded
 pub mod Envs
 pub mod Holding
 pub mod Sim
@@ -37,3 +41,10 @@ pub mod Primitives
 pub mod PrimSteps
 pub mod Lists
 pub mod RestLists
+pub mod Applies
+pub mod Steps
+pub mod Whole
+pub mod Edges
+pub mod Bits
+pub mod Seen
+pub mod Space

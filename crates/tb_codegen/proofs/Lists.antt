@@ -234,6 +234,7 @@ module _ (p : AnfTree) (notes : List Note) where
     held = p_agree w (links (length heap) (length st) vs ++ w) (λ k i. in-right (links (length heap) (length st) vs) w k i) heap (heap ++ list_words (length heap) us) 0 (length globals) (length globals) globals (omega arith) (agree_left heap (list_words (length heap) us) 0 (length globals)) mem.held;
     count = mem.count;
     inputs = mem.inputs;
+    padded = λ k a b. get-left heap (list_words (length heap) us) k _ (mem.padded k a b);
     statics = λ n s e. let q = mem.statics n s e in (q.0, q.1, in-right (links (length heap) (length st) vs) w _ q.2);
   }
 

@@ -14,6 +14,7 @@ use Rattle.tb_mac.specs.Words.{IsImmediate, imm_bits, unspecified}
 use Rattle.tb_mac.specs.Layout.{const_word}
 use Rattle.tb_prim.specs.declared.constant.Static.{Static}
 use Rattle.tb_mac.specs.Assembled.{Assembled}
+use Rattle.tb_mac.specs.LiveWords.{is_lifted}
 use Rattle.tb_mac.specs.MacStep.{place_of}
 use Rattle.tb_codegen.specs.Notes.{Spot, Reg, Slot, Symbol, Constant, Variable, Itself, Capture, Entry, Stands, Waiting, ToCaller, ToTop, Then, Point, AtBlock, AtValue, AtUnspecified, AtFill, AtAll, Own, Away, Here, Ready, Note, Inside, AtProc, AtArgs, AtLifted, note_map, symbol_of}
 use Rattle.tb_codegen.specs.Operations.{constant, operands, place}
@@ -203,7 +204,7 @@ module _ (p : AnfTree) where
           Onward own mid (suc made) ns xs ls k js new →
           Ok (I.Clo d n l) None (Inside (AtAll made ns xs ls k js) own old) (Some new)
       ok_stored : (z : Symbol) {s a size made : ℕ} {ns xs ls : List ℕ} {k : Block} {js : Waiting} {old mid : List Entry} {new : Note} →
-          s < size → IsIn (Stands (Reg a) z) old → Into (Slot s) (StandsAt (Reg a) old) Same mid old →
+          s < size → IsIn (Stands (Reg a) z) old → Into (Slot s) (StandsAt (Reg a) old) Same mid old → length xs ≡ length ls →
           Onward (Here size) mid made ns xs ls k js new →
           Ok (I.Store a s) None (Inside (AtAll made ns xs ls k js) (Here size) old) (Some new)
       ok_word : (i x y m : ℕ) {a b j made : ℕ} {ns xs ls : List ℕ} {k : Block} {js : Waiting} {own : Own} {old mid : List Entry} {new : Note} →
@@ -230,3 +231,4 @@ pub record Follows (p : AnfTree) (notes : List Note) (c : Assembled) : Type 0 wh
   pub maps : (pc : ℕ) (n : Note) → HasNote p notes pc n → slice_get c.maps pc ≡ Some (note_map n)
   pub globals : c.parts.globals ≡ p.globals
   pub statics : c.parts.statics ≡ p.statics
+  pub lambdas : (m : ℕ) (q : ProcTree) → proc_of p.procs m ≡ Some q → is_lifted c.parts.lambdas m ≡ q.lifted

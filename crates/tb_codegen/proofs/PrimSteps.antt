@@ -135,7 +135,7 @@ module _ (p : AnfTree) (notes : List Note) where
   -- memory with other input
   mem_input : (w : World) (heap : List Word) (st : List Item) (globals : List Value) (ahead ahead2 : Option Taken) (input input2 cin cin2 : List ℕ) (met met2 : Bool) →
       Memory p notes w Closed heap st globals ahead input cin met → InRel ahead2 input2 cin2 met2 → Memory p notes w Closed heap st globals ahead2 input2 cin2 met2
-  mem_input w heap st globals ahead ahead2 input input2 cin cin2 met met2 mem i = record { stores = mem.stores; held = mem.held; count = mem.count; inputs = i; statics = mem.statics }
+  mem_input w heap st globals ahead ahead2 input input2 cin cin2 met met2 mem i = record { stores = mem.stores; held = mem.held; count = mem.count; padded = mem.padded; inputs = i; statics = mem.statics }
 
   -- the object of new words
   new_object : (w : World) (heap : List Word) (t : ℕ) (ws : List Word) (o : Object) → News w t ws o → (z : World) → Grows w z → (u : Word) × (slice_get (heap ++ ws) (length heap) ≡ Some u) ×

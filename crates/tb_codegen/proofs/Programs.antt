@@ -144,10 +144,10 @@ module _ (p : AnfTree) (rules : KeepsRules p) (fits : Fits p) where
       }
 
   module _ (q : ProcTree) (at : IsIn q p.procs) where
-    keeps : ProcKeeps p q
+    pub keeps : ProcKeeps p q
     keeps = every-at (ProcKeeps p) p.procs q rules.procs at
 
-    block-keeps : (b : Block) → IsIn b (blocks q.body) → BlockKeeps p b
+    pub block-keeps : (b : Block) → IsIn b (blocks q.body) → BlockKeeps p b
     block-keeps b i = every-at (BlockKeeps p) (all_blocks p) b rules.blocks (in-blocks-of p.procs q b at i)
 
     params-apart : IsApart q.params
@@ -167,7 +167,7 @@ module _ (p : AnfTree) (rules : KeepsRules p) (fits : Fits p) where
     own-in x i =
         ⊎_elim (λ j. in-right q.params _ x (in-left q.captured _ x j)) (λ j. in-left q.params _ x j) (in-cases q.captured q.params x i)
 
-    named-in : (y : ℕ) → IsIn y (free p q.body) → IsIn y q.captured ⊎ IsIn y q.params
+    pub named-in : (y : ℕ) → IsIn y (free p q.body) → IsIn y q.captured ⊎ IsIn y q.params
     named-in y i = by (is_in q.params y) refl
       where
         by : (b : Bool) → is_in q.params y ≡ b → IsIn y q.captured ⊎ IsIn y q.params
@@ -264,13 +264,13 @@ module _ (p : AnfTree) (rules : KeepsRules p) (fits : Fits p) where
     }
 
     -- the body of a proc keeps what the generator needs
-    body-ok : BlockOk p (noted_items p) (slot_of q) (frame_size q) q.body []
+    pub body-ok : BlockOk p (noted_items p) (slot_of q) (frame_size q) q.body []
     body-ok = block-ok p (noted_items p) rules q proc-at op-ok test-ok group-ok q.body (q.captured ++ q.params) [] [] scope-first
 
     settles-body : free p (settled q.body) ≡ free p q.body
     settles-body = settles p (noted_items p) (slot_of q) (frame_size q) q.body [] body-ok
 
-    entering : Entering p (noted_items p) (slot_of q) (frame_size q) q
+    pub entering : Entering p (noted_items p) (slot_of q) (frame_size q) q
     entering = record {
       small = λ x i. index-below (own_variables q) (origin (blocks q.body) x)
         (subst (λ z. IsIn z (own_variables q)) (sym (own-origin x i)) (own-in x i));

@@ -319,6 +319,7 @@ module _ (p : AnfTree) (notes : List Note) where
     pub stores : Stores p notes w o globals_words heap st
     pub held : PRel w heap 0 (length globals) globals
     pub count : length globals ≡ length p.globals
+    pub padded : (k : ℕ) → length p.globals ≤ k → k < globals_words → slice_get heap k ≡ Some (W.Fix (pos 0))
     pub inputs : InRel ahead input cin met
     pub statics : (n : ℕ) (s : Static) → slice_get p.statics n ≡ Some s →
         (a : ℕ) × (slice_get (addresses_from globals_words p.statics) n ≡ Some a) × IsIn (Lk (static_tag s) a n) w

@@ -103,6 +103,7 @@ module _ (p : AnfTree) (notes : List Note) (limit : ℕ) where
         held = subst₂ (λ m n. PRel w (slice_set heap m u) 0 n (slice_set globals g v)) z (sym q) (p_set w heap 0 (length globals) globals g u v lt (omega arith) uv mem.held);
         count = q ∙ n;
         inputs = mem.inputs;
+        padded = λ k a b. get-set-other heap g k _ u (λ q. absurd (omega arith)) (mem.padded k a b);
         statics = mem.statics;
       }
 

@@ -1,7 +1,7 @@
 pub mod Homes
-pub mod Fits
 pub mod Notes
 pub mod Operations
 pub mod Generate
 pub mod PlainCode
+pub mod Fits
 pub mod Examples

@@ -2,5 +2,6 @@
 #![tactic(auto)]
 
 mod examples;
+pub mod laws;
 
 pub use examples::{worked_programs, worked_requests};
