@@ -146,9 +146,9 @@ module _ (p : AnfTree) (notes : List Note) (limit : ℕ) where
       let t = op_starts r at j in
       let e = ap (step_of p notes) (t.1 x) ∙ steps t.0 in
       let hh = holds-from p x.st y.st w w (λ k i. i) (r ∷ rs) (Env.Bind 0 Unspecified Empty ∷ pushed p [] [] o r rs) x.regs slots _ new old h from
-          (under p x.st y.st o [] [] r (Env.Bind 0 Unspecified Empty) rs (λ y i. absurd i)) in
+      (under p x.st y.st o [] [] r (Env.Bind 0 Unspecified Empty) rs (λ y i. absurd i)) in
       let rel : Rel p notes w (target p notes limit (record y { pc = x.pc + 1; regs = x.regs }) top) (source p notes limit y (Val Unspecified) t.0) =
-          r_inside y.es n (at_unspecified t.2) hh o2 f mem len in
+      r_inside y.es n (at_unspecified t.2) hh o2 f mem len in
       (2, (w, subst (Rel p notes w (target p notes limit (record y { pc = x.pc + 1; regs = x.regs }) top)) (sym e) rel), inl (omega arith))
 
   -- neither the source nor the machine has a next step

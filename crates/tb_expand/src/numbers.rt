@@ -1,0 +1,3 @@
+//! The program of a text: its nodes with their numbers.
+mod statics;
+mod tables;
