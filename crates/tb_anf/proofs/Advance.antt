@@ -72,7 +72,7 @@ simple_free : (I : ℕ → List ℕ) {e : Tree} {a : Operand} (y : ℕ) → Simp
 simple_free I y (constant c) i = absurd i
 simple_free I y (variable z) i = i
 
-own_name : (n : ℕ) (e : Tree) → IsIn (value_name n) (names n e)
+pub own_name : (n : ℕ) (e : Tree) → IsIn (value_name n) (names n e)
 own_name n (Node p s f) = inl refl
 
 atom_free : (line : ℕ → Option (List ℕ)) (I : ℕ → List ℕ) (n : ℕ) (e : Tree) (y : ℕ) → Kind line n e →
@@ -90,9 +90,9 @@ done-free y none_done h i = i
 done-free y (one_done {i = j} {a = a} {ds = ds} g e d) h i =
     ⊎_elim (h j (inl refl) a g) (done-free y d (λ k l. h k (inr l))) (in-either y (free_of_atom a) (free_of_atoms ds) i)
 
-module _ (x : Context) where
+module _ (x : Context) (calls : Form → Type 0) where
   -- the names of an operand are in no atom of another one
-  other_atom : (n s : ℕ) (f : Form) → View x.line n f → by_operands f ≡ true → SoundForm x n s f →
+  other_atom : (n s : ℕ) (f : Form) → View x.line n f → by_operands f ≡ true → SoundForm x calls n s f →
       (i j : ℕ) (e : Tree) →
       tree_at (operands f) i ≡ Some e → (i ≡ j → ⊥) → (a : Operand) → slice_get (operand_atoms n f) j ≡ Some a →
       (y : ℕ) → IsIn y (names (number_at (suc n) (operands f) i) e) → IsIn y (free_of_atom a) → ⊥
@@ -116,8 +116,8 @@ module _ (x : Context) where
       (kind x.line (number_at (suc n) (operands f) j) c.0) (subst (λ d. IsIn y (free_of_atom d)) (sym c.2) l))
 
   -- the expression of an operand
-  pub operand-sound : (n s : ℕ) (f : Form) → by_operands f ≡ true → SoundForm x n s f → (i : ℕ) (e : Tree) →
-      tree_at (operands f) i ≡ Some e → Sound x (number_at (suc n) (operands f) i) e
+  pub operand-sound : (n s : ℕ) (f : Form) → by_operands f ≡ true → SoundForm x calls n s f → (i : ℕ) (e : Tree) →
+      tree_at (operands f) i ≡ Some e → Sound x calls (number_at (suc n) (operands f) i) e
   operand-sound n s f o so i e t = record {
     apart = names-apart (suc n) (operands f) i e t (operands-apart n f o so.apart);
     new = λ y k l. so.new y (operands-in n f o y (names-at (suc n) (operands f) i e t y k))
@@ -126,7 +126,7 @@ module _ (x : Context) where
   }
 
   -- nothing of what follows rests on a name of the node that is in no atom of the operands before
-  new_needed : (n s : ℕ) (f : Form) → by_operands f ≡ true → SoundForm x n s f → (needed : List ℕ) →
+  new_needed : (n s : ℕ) (f : Form) → by_operands f ≡ true → SoundForm x calls n s f → (needed : List ℕ) →
       AreNew (names_form n f) needed → (rest : List ℕ) (ds : List Operand) (y : ℕ) → IsIn y (names_form n f) →
       (IsIn y (free_of_atoms ds) → ⊥) →
       IsIn y ((free_of_numbers x (operands f) rest ++ free_of_body x f) ++ (free_of_atoms ds ++ needed)) → ⊥
@@ -138,22 +138,23 @@ module _ (x : Context) where
       (λ r. ⊎_elim out (nw y k) (in-either y (free_of_atoms ds) needed r))
       (in-either y (free_of_numbers x (operands f) rest ++ free_of_body x f) _ l)
 
-module _ (x : Context) (taken : ℕ → List ℕ) where
+module _ (x : Context) (calls : Form → Type 0) (taken : ℕ → List ℕ) where
   -- the source evaluates an operand under this work, above its frames: the target is at its block, or behind it
   -- where the operand is an atom
   pub data Begins (m : Env) (e : Tree) (w : TreeWork) (fs : Frames) : Block → AnfFrames → Type 0 where
-    into : (n y : ℕ) {b : Block} {ts : AnfFrames} {needed : List ℕ} → Sound x n e → AreNew (names n e) needed →
-        Awaits x taken m (A.Var y) w fs b ts needed → (IsIn y needed → ⊥) →
+    into : (n y : ℕ) {b : Block} {ts : AnfFrames} {needed : List ℕ} → Sound x calls n e → AreNew (names n e) needed →
+        Awaits x calls taken m (A.Var y) w fs b ts needed → (IsIn y needed → ⊥) →
         Begins m e w fs (block_of x.line n e (Then y b)) ts
     reads : {a : Operand} {b : Block} {ts : AnfFrames} {needed : List ℕ} → Simple e a →
-        Awaits x taken m a w fs b ts needed → Begins m e w fs b ts
+        Awaits x calls taken m a w fs b ts needed → Begins m e w fs b ts
 
   module _ (m q : Env) (p : Place) (s n i : ℕ) (f : Form) (vs : List Value) (done rest : List ℕ) (ds : List Operand)
       (k : After) (fs : Frames) (ts : AnfFrames) (needed : List ℕ) (e : Tree) (o : by_operands f ≡ true)
-      (so : SoundForm x n s f) (nw : AreNew (names_form n f) needed) (ns : numbers (x.line s) f ≡ done ++ i ∷ rest)
+      (so : SoundForm x calls n s f) (nw : AreNew (names_form n f) needed) (ns : numbers
+      (x.line s) f ≡ done ++ i ∷ rest)
       (t : tree_at (operands f) i ≡ Some e) (d : Done m (operand_atoms n f) done ds vs)
       (c : Named (free_of_numbers x (operands f) rest ++ free_of_body x f) q m)
-      (h : Follows x taken m fs k ts needed) where
+      (h : Follows x calls taken m fs k ts needed) where
     abbrev here : ℕ
     here = number_at (suc n) (operands f) i
 
@@ -169,11 +170,11 @@ module _ (x : Context) (taken : ℕ → List ℕ) where
 
     names_new : AreNew (names here e)
         ((free_of_numbers x (operands f) rest ++ free_of_body x f) ++ (free_of_atoms ds ++ needed))
-    names_new y l = new_needed x n s f o so needed nw rest ds y (inside y l)
-        (done-free y d (λ j r a g. other_atom x n s f (view x.line n f o) o so i j e t (not_done j r) a g y l))
+    names_new y l = new_needed x calls n s f o so needed nw rest ds y (inside y l)
+        (done-free y d (λ j r a g. other_atom x calls n s f (view x.line n f o) o so i j e t (not_done j r) a g y l))
 
     awaits : (a : Operand) → slice_get (operand_atoms n f) i ≡ Some a →
-        Awaits x taken m a (Args p s f vs q) fs behind ts
+        Awaits x calls taken m a (Args p s f vs q) fs behind ts
         ((free_of_numbers x (operands f) rest ++ free_of_body x f) ++ (free_of_atoms ds ++ needed))
     awaits a g = operand n i done rest ds o so nw ns g d c h
 
@@ -182,7 +183,7 @@ module _ (x : Context) (taken : ℕ → List ℕ) where
     of_kind g (stays si b) = subst (λ z. Begins m e (Args p s f vs q) fs z ts) (sym (b behind)) (reads si (awaits _ g))
     of_kind g (binds a b) =
         subst (λ z. Begins m e (Args p s f vs q) fs z ts) (sym (b behind))
-        (into here (value_name here) (operand-sound x n s f o so i e t) names_new
+        (into here (value_name here) (operand-sound x calls n s f o so i e t) names_new
         (awaits (A.Var (value_name here)) (g ∙ ap Some a)) (names_new (value_name here) (own_name here e)))
 
     plain_next : operand_atoms n f ≡ atoms (suc n) (operands f) →
@@ -195,10 +196,10 @@ module _ (x : Context) (taken : ℕ → List ℕ) where
 
   let_next : (m q : Env) (p : Place) (s n i : ℕ) (xs : List ℕ) (es : Trees) (b : Tree) (vs : List Value)
       (done rest : List ℕ) (ds : List Operand) (k : After) (fs : Frames) (ts : AnfFrames) (needed : List ℕ) (e : Tree) →
-      (so : SoundForm x n s (Let xs es b)) → AreNew (names_form n (Let xs es b)) needed →
+      (so : SoundForm x calls n s (Let xs es b)) → AreNew (names_form n (Let xs es b)) needed →
       numbers (x.line s) (Let xs es b) ≡ done ++ i ∷ rest → tree_at es i ≡ Some e →
       Done m (map A.Var xs) done ds vs →
-      Named (free_of_numbers x es rest ++ free_of_body x (Let xs es b)) q m → Follows x taken m fs k ts needed →
+      Named (free_of_numbers x es rest ++ free_of_body x (Let xs es b)) q m → Follows x calls taken m fs k ts needed →
       Begins m e (Args p s (Let xs es b) vs q) fs
       (around (steps x.line n (Let xs es b)) (i ∷ rest) (finish x.line n p (Let xs es b) k)) ts
   let_next m q p s n i xs es b vs done rest ds k fs ts needed e so nw ns t d c h =
@@ -211,10 +212,10 @@ module _ (x : Context) (taken : ℕ → List ℕ) where
       subst (λ z. Begins m e (Args p s (Let xs es b) vs q) fs
       (around_at z (around (steps x.line n (Let xs es b)) rest (finish x.line n p (Let xs es b) k))) ts)
       (sym (named-at x.line (suc n) xs es i y e v.1 t))
-      (into (number_at (suc n) es i) y (operand-sound x n s (Let xs es b) refl so i e t)
+      (into (number_at (suc n) es i) y (operand-sound x calls n s (Let xs es b) refl so i e t)
       (names_new m q p s n i (Let xs es b) vs done rest ds k fs ts needed e refl so nw ns t d c h)
       (awaits m q p s n i (Let xs es b) vs done rest ds k fs ts needed e refl so nw ns t d c h (A.Var y) g)
-      (new_needed x n s (Let xs es b) refl so needed nw rest ds y mine out))
+      (new_needed x calls n s (Let xs es b) refl so needed nw rest ds y mine out))
     where
       other_variable : (y j : ℕ) (a : Operand) → slice_get xs i ≡ Some y → (i ≡ j → ⊥) →
           slice_get (map A.Var xs) j ≡ Some a → IsIn y (free_of_atom a) → ⊥
@@ -228,19 +229,21 @@ module _ (x : Context) (taken : ℕ → List ℕ) where
   -- the source goes on to the next operand
   pub next-operand : (m q : Env) (p : Place) (s n i : ℕ) (f : Form) (vs : List Value) (done rest : List ℕ)
       (ds : List Operand) (k : After) (fs : Frames) (ts : AnfFrames) (needed : List ℕ) (e : Tree) →
-      by_operands f ≡ true → SoundForm x n s f → AreNew (names_form n f) needed →
+      by_operands f ≡ true → SoundForm x calls n s f → AreNew (names_form n f) needed →
       numbers (x.line s) f ≡ done ++ i ∷ rest → tree_at (operands f) i ≡ Some e →
       Done m (operand_atoms n f) done ds vs →
-      Named (free_of_numbers x (operands f) rest ++ free_of_body x f) q m → Follows x taken m fs k ts needed →
+      Named (free_of_numbers x (operands f) rest ++ free_of_body x f) q m → Follows x calls taken m fs k ts needed →
       Begins m e (Args p s f vs q) fs (around (steps x.line n f) (i ∷ rest) (finish x.line n p f k)) ts
   next-operand m q p s n i f vs done rest ds k fs ts needed e o so nw ns t d c h = by
       (view x.line n f o) o so nw ns t d c
     where
-      by : {f : Form} → View x.line n f → by_operands f ≡ true → SoundForm x n s f → AreNew (names_form n f) needed →
+      by : {f : Form} → View x.line n f → by_operands f ≡ true → SoundForm x calls n s f →
+          AreNew (names_form n f) needed →
           numbers (x.line s) f ≡ done ++ i ∷ rest → tree_at (operands f) i ≡ Some e →
           Done m (operand_atoms n f) done ds vs →
           Named (free_of_numbers x (operands f) rest ++ free_of_body x f) q m →
           Begins m e (Args p s f vs q) fs (around (steps x.line n f) (i ∷ rest) (finish x.line n p f k)) ts
-      by (of_let xs es b) o so nw ns t d c = let_next m q p s n i xs es b vs done rest ds k fs ts needed e so nw ns t d c h
+      by (of_let xs es b) o so nw ns t d c =
+          let_next m q p s n i xs es b vs done rest ds k fs ts needed e so nw ns t d c h
       by (plain {f = g} a b z) o so nw ns t d c =
           plain_next m q p s n i g vs done rest ds k fs ts needed e o so nw ns t d c h a b

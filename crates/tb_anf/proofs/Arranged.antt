@@ -24,7 +24,7 @@ ones : (xs : List ℕ) → sum_of (λ i. 1) xs ≡ length xs
 ones [] = refl
 ones (x ∷ xs) = let h = ones xs in omega arith
 
-no_longer : (xs ys : List ℕ) → IsApart xs → ((i : ℕ) → IsIn i xs → IsIn i ys) → length xs ≤ length ys
+pub no_longer : (xs ys : List ℕ) → IsApart xs → ((i : ℕ) → IsIn i xs → IsIn i ys) → length xs ≤ length ys
 no_longer xs ys a h =
     let le = sum_by_partners (λ i j. i ≡ j) (λ i. 1) (λ i. 1) (λ i j k p q. p ∙ sym q) xs ys a
     (λ i t. (i, h i t, refl, omega arith)) in

@@ -19,6 +19,7 @@ use Rattle.tb_ir.specs.AnfMachine as N
 use Rattle.tb_ir.specs.AnfMachine.{Code, InBlock, InOp, AnfFrames, AnfState, Binding, free_block, free_op, free_of_atom, atom_value}
 use Rattle.tb_anf.specs.NormalForm.{After, put}
 use Rattle.tb_anf.proofs.Environments.{lookup-same, gather-sub, gather-bind}
+use Rattle.tb_anf.proofs.Calls.{Calls}
 use Rattle.tb_anf.proofs.Rel.{Awaits, awaits-more, Follows, at_end, then, waiting, framed}
 use Rattle.tb_anf.proofs.Roots.{Held, Waits, gather-roots, frames-wait}
 use Rattle.tb_anf.proofs.States as S
@@ -50,29 +51,29 @@ module _ (p : ProgramTree) (order : List Line) (taken : ℕ → List ℕ)
 
   -- the target goes to the operation of a block
   pub put-runs : (h : Ground) (m r : Env) (j : Control Tree) (hs fs : Frames) (ts : AnfFrames) (k : After)
-      (needed : List ℕ) (es : List Event) (op : Op) → Follows x taken m fs k ts needed →
+      (needed : List ℕ) (es : List Event) (op : Op) → Follows x (Calls p) taken m fs k ts needed →
       Ready p order taken m (at h j hs) es fs op (M.step (T.language p order) (Running (at h j hs) es)) →
-      Stands m j hs fs op → r ≡ gather (free_block taken (put k op)) m → Stored x h.store →
+      Stands m j hs fs op → r ≡ gather (free_block taken (put k op)) m → Stored x (Calls p) h.store →
       Related p order taken (N.run_block taken (at h (Eval (InBlock (put k op)) r) ts) (put k op) r es)
       (Running (at h j hs) es)
   put-runs h m r j hs fs ts _ needed es op (at_end f) rd s e st =
       let cut = ap (gather (free_op taken op)) e ∙ gather-sub (free_op taken op) (free_op taken op) m (λ y i. i) in
-      S.runs h m _ j hs op rd (op_within m _ j hs fs ts op s cut (frames-wait x taken fewer f)) cut f st
+      S.runs h m _ j hs op rd (op_within m _ j hs fs ts op s cut (frames-wait x (Calls p) taken fewer f)) cut f st
   put-runs h m r j hs _ ts _ needed es op (then {y = z} {w = w} {b = b} {fs = fs} a out) rd s e st =
       let mine = free_op taken op in
       let later = without (z ∷ []) (free_block taken b) in
       let cut = ap (gather mine) e ∙ gather-sub mine (mine ++ later) m (λ y i. in-left y mine later i) in
       let rest = ap (gather later) e ∙ gather-sub later (mine ++ later) m (λ y i. in-right y mine later i) in
       let f = waiting false a out rest in
-      S.runs h m _ j hs op rd (op_within m _ j hs _ _ op s cut (frames-wait x taken fewer f)) cut f st
+      S.runs h m _ j hs op rd (op_within m _ j hs _ _ op s cut (frames-wait x (Calls p) taken fewer f)) cut f st
 
   -- a value is given to the block that awaits it
   pub given : (h : Ground) (m r : Env) (z : ℕ) (w : TreeWork) (b : Block) (needed : List ℕ) (fs : Frames)
-      (ts : AnfFrames) (v : Value) (es : List Event) → Awaits x taken m (A.Var z) w fs b ts needed →
-      (IsIn z needed → ⊥) → r ≡ gather (without (z ∷ []) (free_block taken b)) m → Stored x h.store →
+      (ts : AnfFrames) (v : Value) (es : List Event) → Awaits x (Calls p) taken m (A.Var z) w fs b ts needed →
+      (IsIn z needed → ⊥) → r ≡ gather (without (z ∷ []) (free_block taken b)) m → Stored x (Calls p) h.store →
       Related p order taken
       (N.give taken (at h (Val v) (framed false (Binding z b r) ∷ ts)) v (Binding z b r) ts es)
       (Running (at h (Val v) (push w fs)) es)
   given h m r z w b needed fs ts v es a out e st =
-      S.gives h v (A.Var z) (Bind z v m) _ w b needed (awaits-more x taken z v out a) (lookup-same z v m)
+      S.gives h v (A.Var z) (Bind z v m) _ w b needed (awaits-more x (Calls p) taken z v out a) (lookup-same z v m)
       (ap (λ u. gather (free_block taken b) (Bind z v u)) e ∙ gather-bind z v (free_block taken b) m) st

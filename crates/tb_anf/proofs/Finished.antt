@@ -19,6 +19,7 @@ use Rattle.tb_anf.specs.NormalForm.{After, put}
 use Rattle.tb_anf.proofs.Arranged.{operand-count}
 use Rattle.tb_anf.proofs.Blocks.{put-runs}
 use Rattle.tb_anf.proofs.Given.{gives-ready}
+use Rattle.tb_anf.proofs.Calls.{Calls}
 use Rattle.tb_anf.proofs.Names.{by_operands, SoundForm}
 use Rattle.tb_anf.proofs.Rel.{operand_atoms, operation, Done, done-last, Follows}
 use Rattle.tb_anf.proofs.Roots.{held-more, done-held, in-values-left}
@@ -39,11 +40,11 @@ module _ (p : ProgramTree) (order : List Line) (taken : ℕ → List ℕ)
   pub gives-runs : (h : Ground) (v : Value) (a : Operand) (m q r : Env) (q' : Place) (s n i : ℕ) (f : Form)
       (vs : List Value) (done : List ℕ) (ds : List Operand) (k : After) (fs : Frames) (ts : AnfFrames)
       (needed : List ℕ) (es : List Event) → by_operands f ≡ true →
-      ((xs : List ℕ) (ds : Trees) (e : Tree) → f ≡ Let xs ds e → ⊥) → SoundForm (T.context_of p order) n s f →
+      ((xs : List ℕ) (ds : Trees) (e : Tree) → f ≡ Let xs ds e → ⊥) → SoundForm (T.context_of p order) (Calls p) n s f →
       numbers ((T.context_of p order).line s) f ≡ done ++ i ∷ [] → slice_get (operand_atoms n f) i ≡ Some a →
       Done m (operand_atoms n f) done ds vs → atom_value m a ≡ Some v →
-      Follows (T.context_of p order) taken m fs k ts needed →
-      r ≡ gather (free_block taken (put k (operation n q' f))) m → Stored (T.context_of p order) h.store →
+      Follows (T.context_of p order) (Calls p) taken m fs k ts needed →
+      r ≡ gather (free_block taken (put k (operation n q' f))) m → Stored (T.context_of p order) (Calls p) h.store →
       Related p order taken
       (N.run_block taken (at h (Eval (InBlock (put k (operation n q' f))) r) ts) (put k (operation n q' f)) r es)
       (Running (at h (Val v) (push (Args q' s f vs q) fs)) es)
@@ -58,7 +59,7 @@ module _ (p : ProgramTree) (order : List Line) (taken : ℕ → List ℕ)
         marked = omega arith;
         frames = λ u z. in-right u (value_locations v) below (in-right u (values_locations (vs ++ env_values q)) _ z);
         atoms = λ y z.
-            let b = some_atom (operand_atoms n f) y (operation_named x taken fewer n q' f y z) in
+            let b = some_atom (operand_atoms n f) y (operation_named x (Calls p) taken fewer n q' f y z) in
             let lt = b.4 in
             let long = operand-count n f o so.here.long in
             held-more m y (values_locations (vs ++ v ∷ [])) (value_locations v ++ below)

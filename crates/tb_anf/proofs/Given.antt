@@ -16,6 +16,7 @@ use Rattle.tb_ir.specs.AnfMachine.{AnfFrames, InBlock, atom_value, free_block}
 use Rattle.tb_anf.specs.NormalForm.{After, around}
 use Rattle.tb_anf.proofs.Arranged.{all-values}
 use Rattle.tb_anf.proofs.Environments.{Named, Values}
+use Rattle.tb_anf.proofs.Calls.{Calls}
 use Rattle.tb_anf.proofs.Names.{names_form, by_operands, AreNew, SoundForm}
 use Rattle.tb_anf.proofs.Nodes.{done-length, drop-front, goes-on, operation-ready}
 use Rattle.tb_anf.proofs.Parts.{let-goes}
@@ -38,12 +39,14 @@ module _ (p : ProgramTree) (order : List Line) (taken : ℕ → List ℕ) where
   -- more operands are left
   pub gives-more : (h : Ground) (v : Value) (a : Operand) (m q r : Env) (q' : Place) (s n i i' : ℕ) (f : Form)
       (vs : List Value) (done rest : List ℕ) (ds : List Operand) (k : After) (fs : Frames) (ts : AnfFrames)
-      (needed : List ℕ) (es : List Event) → by_operands f ≡ true → SoundForm x n s f → AreNew (names_form n f) needed →
+      (needed : List ℕ) (es : List Event) → by_operands f ≡ true → SoundForm x (Calls p) n s f →
+      AreNew (names_form n f) needed →
       numbers (x.line s) f ≡ done ++ i ∷ (i' ∷ rest) → slice_get (operand_atoms n f) i ≡ Some a →
       Done m (operand_atoms n f) done ds vs → atom_value m a ≡ Some v →
-      Named (free_of_numbers x (operands f) (i' ∷ rest) ++ free_of_body x f) q m → Follows x taken m fs k ts needed →
+      Named (free_of_numbers x (operands f) (i' ∷ rest) ++ free_of_body x f) q m →
+      Follows x (Calls p) taken m fs k ts needed →
       r ≡ gather (free_block taken (around (steps x.line n f) (i' ∷ rest) (finish x.line n q' f k))) m →
-      Stored x h.store →
+      Stored x (Calls p) h.store →
       Related p order taken
       (Running (at h (Eval (InBlock (around (steps x.line n f) (i' ∷ rest) (finish x.line n q' f k))) r) ts) es)
       (M.step (T.language p order) (Running (at h (Val v) (push (Args q' s f vs q) fs)) es))
@@ -61,7 +64,7 @@ module _ (p : ProgramTree) (order : List Line) (taken : ℕ → List ℕ) where
   -- all operands are there
   there : {m : Env} (s n i : ℕ) (f : Form) {vs : List Value} {done : List ℕ} {ds : List Operand} (a : Operand)
       (v : Value) →
-      by_operands f ≡ true → SoundForm x n s f → numbers (x.line s) f ≡ done ++ i ∷ [] →
+      by_operands f ≡ true → SoundForm x (Calls p) n s f → numbers (x.line s) f ≡ done ++ i ∷ [] →
       slice_get (operand_atoms n f) i ≡ Some a → Done m (operand_atoms n f) done ds vs → atom_value m a ≡ Some v →
       Values m (operand_atoms n f) (arranged 0 (length (numbers (x.line s) f)) (numbers (x.line s) f) (vs ++ v ∷ []))
   there {m} s n i f {vs = vs} {ds = ds} a v o so ns g d e =
@@ -72,12 +75,12 @@ module _ (p : ProgramTree) (order : List Line) (taken : ℕ → List ℕ) where
   pub gives-let : (h : Ground) (v : Value) (a : Operand) (m q r : Env) (q' : Place) (s n i : ℕ) (xs : List ℕ)
       (es' : Trees)
       (b : Tree) (vs : List Value) (done : List ℕ) (ds : List Operand) (k : After) (fs : Frames) (ts : AnfFrames)
-      (needed : List ℕ) (es : List Event) → SoundForm x n s (Let xs es' b) →
+      (needed : List ℕ) (es : List Event) → SoundForm x (Calls p) n s (Let xs es' b) →
       AreNew (names_form n (Let xs es' b)) needed →
       numbers (x.line s) (Let xs es' b) ≡ done ++ i ∷ [] → slice_get (operand_atoms n (Let xs es' b)) i ≡ Some a →
       Done m (operand_atoms n (Let xs es' b)) done ds vs → atom_value m a ≡ Some v →
-      Named (free_of_body x (Let xs es' b)) q m → Follows x taken m fs k ts needed →
-      r ≡ gather (free_block taken (finish x.line n q' (Let xs es' b) k)) m → Stored x h.store →
+      Named (free_of_body x (Let xs es' b)) q m → Follows x (Calls p) taken m fs k ts needed →
+      r ≡ gather (free_block taken (finish x.line n q' (Let xs es' b) k)) m → Stored x (Calls p) h.store →
       Related p order taken (Running (at h (Eval (InBlock (finish x.line n q' (Let xs es' b) k)) r) ts) es)
       (M.step (T.language p order) (Running (at h (Val v) (push (Args q' s (Let xs es' b) vs q) fs)) es))
   gives-let h v a m q r q' s n i xs es' b vs done ds k fs ts needed es so nw ns g d e nm fo eq st =
@@ -93,7 +96,7 @@ module _ (p : ProgramTree) (order : List Line) (taken : ℕ → List ℕ) where
   -- the operation is next
   pub gives-ready : (h : Ground) (v : Value) (a : Operand) (m q : Env) (q' : Place) (s n i : ℕ) (f : Form)
       (vs : List Value) (done : List ℕ) (ds : List Operand) (fs : Frames) (es : List Event) → by_operands f ≡ true →
-      ((xs : List ℕ) (ds : Trees) (e : Tree) → f ≡ Let xs ds e → ⊥) → SoundForm x n s f →
+      ((xs : List ℕ) (ds : Trees) (e : Tree) → f ≡ Let xs ds e → ⊥) → SoundForm x (Calls p) n s f →
       numbers (x.line s) f ≡ done ++ i ∷ [] → slice_get (operand_atoms n f) i ≡ Some a →
       Done m (operand_atoms n f) done ds vs → atom_value m a ≡ Some v →
       Ready p order taken m (at h (Val v) (push (Args q' s f vs q) fs)) es fs (operation n q' f)
@@ -103,4 +106,5 @@ module _ (p : ProgramTree) (order : List Line) (taken : ℕ → List ℕ) where
       subst (λ z. Ready p order taken m (at h (Val v) hs) es fs (operation n q' f)
       (T.operands_left x (at h (Val v) hs) q' s f (vs ++ v ∷ []) q (numbers (x.line s) f) z fs es))
       (sym (rest-left (numbers (x.line s) f) done [] i vs v ns (done-length d)))
-      (operation-ready p order taken m q (at h (Val v) hs) es fs q' n f _ o l (there s n i f a v o so ns g d e))
+      (operation-ready p order taken m q (at h (Val v) hs) es fs q' n f _ o l so.here.may
+      (there s n i f a v o so ns g d e))

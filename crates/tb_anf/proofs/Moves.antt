@@ -16,6 +16,7 @@ use Rattle.tb_ir.specs.AnfMachine as N
 use Rattle.tb_ir.specs.AnfMachine.{Code, InBlock, InOp, AnfFrames, AnfState, captured_by, proc_of, free_block, form_of}
 use Rattle.tb_anf.specs.NormalForm.{AtEnd, normal_form, After, block_of}
 use Rattle.tb_anf.proofs.Blocks.{given}
+use Rattle.tb_anf.proofs.Calls.{Calls}
 use Rattle.tb_anf.proofs.Names.{Sound, names, AreNew}
 use Rattle.tb_anf.proofs.Procs.{captured-free, same-captured, same-forms, SameForm, no_form, same_form}
 use Rattle.tb_anf.proofs.Rel.{FramesRel, top, waiting, at_end, Awaits, Follows}
@@ -54,19 +55,21 @@ module _ (p : ProgramTree) (order : List Line) (input : List ℕ) (size_s : Tree
       (es : List Event) →
       S.Ready p order taken m (at h j hs) es fs op (M.step (T.language p order) (Running (at h j hs) es)) →
       Within (Eval (InOp op) r) ts j hs → r ≡ gather (N.free_op taken op) m →
-      FramesRel (T.context_of p order) taken fs ts → Stored (T.context_of p order) h.store →
+      FramesRel (T.context_of p order) (Calls p) taken fs ts → Stored (T.context_of p order) (Calls p) h.store →
       Moves (Running (at h (Eval (InOp op) r) ts) es) (Running (at h j hs) es)
   runs-moves h m r j hs op fs ts es rd wi e f st =
       Sim.both_move (run-op p order taken (same-captured p order) h m r j hs fs ts es op _ rd wi e f st)
 
   -- the body behind procedures that name one another
   pub bound-moves : (h : Ground) (n : ℕ) (e : Tree) (q m r : Env) (k : After) (needed : List ℕ) (fs : Frames)
-      (ts : AnfFrames) (es : List Event) → Follows (T.context_of p order) taken m fs k ts needed →
-      Sound (T.context_of p order) n e → AreNew (names n e) needed →
+      (ts : AnfFrames) (es : List Event) → Follows (T.context_of p order) (Calls p) taken m fs k ts needed →
+      Sound (T.context_of p order) (Calls p) n e → AreNew (names n e) needed →
       Named (free (T.context_of p order).inner e) q m →
-      gather (free_block taken (block_of (line_of order) n e k)) r ≡ gather (free_block taken (block_of (line_of order) n e k)) m →
-      Stored (T.context_of p order) h.store →
-      Moves (Running (at h (Bound (InBlock (block_of (line_of order) n e k)) r) ts) es) (Running (at h (Bound e q) fs) es)
+      gather (free_block taken (block_of (line_of order) n e k)) r ≡ gather (free_block taken (block_of
+      (line_of order) n e k)) m →
+      Stored (T.context_of p order) (Calls p) h.store →
+      Moves (Running (at h (Bound (InBlock (block_of (line_of order) n e k)) r) ts) es) (Running (at h
+      (Bound e q) fs) es)
   bound-moves h n e q m r k needed fs ts es f so nw nm eq st =
       Sim.both_move (S.evals h n e _ m _ k needed f so nw
       (named-gather (free (T.context_of p order).inner e) (λ y i. i) nm) eq st)
@@ -74,8 +77,9 @@ module _ (p : ProgramTree) (order : List Line) (input : List ℕ) (size_s : Tree
   -- the source reads an atom, and the target waits
   pub reads-next : (h : Ground) (e : Tree) (a : Operand) (q m r : Env) (w : T.TreeWork) (b : Block) (needed : List ℕ)
       (fs : Frames) (ts : AnfFrames) (es : List Event) → Simple e a →
-      Awaits (T.context_of p order) taken m a w fs b ts needed → Named (free (T.context_of p order).inner e) q m →
-      r ≡ gather (free_block taken b) m → Stored (T.context_of p order) h.store →
+      Awaits (T.context_of p order) (Calls p) taken m a w fs b ts needed →
+      Named (free (T.context_of p order).inner e) q m →
+      r ≡ gather (free_block taken b) m → Stored (T.context_of p order) (Calls p) h.store →
       Related p order taken (Running (at h (Eval (InBlock b) r) ts) es)
       (M.step (T.language p order) (Running (at h (Eval e q) (M.push w fs)) es))
   reads-next h _ _ q m r w b needed fs ts es (constant c) aw nm eq st = S.gives h _ _ m r w b needed aw refl eq st
@@ -86,11 +90,11 @@ module _ (p : ProgramTree) (order : List Line) (input : List ℕ) (size_s : Tree
       (S.gives h k.0 _ m r w b needed aw k.2 eq st)
 
   -- forms, where each is sound wherever its numbers begin, and names nothing
-  module _ (sound : (k n : ℕ) (e : Tree) → tree_at p.forms k ≡ Some e → Sound (T.context_of p order) n e)
+  module _ (sound : (k n : ℕ) (e : Tree) → tree_at p.forms k ≡ Some e → Sound (T.context_of p order) (Calls p) n e)
       (closed : (k : ℕ) (e : Tree) → tree_at p.forms k ≡ Some e → (y : ℕ) →
       IsIn y (free (T.context_of p order).inner e) → ⊥) where
     next_form : (h : Ground) (v : Value) (k : ℕ) (es : List Event) (o : Option Tree) (o' : Option Code) →
-        tree_at p.forms k ≡ o → SameForm (line_of order) o o' → Stored (T.context_of p order) h.store →
+        tree_at p.forms k ≡ o → SameForm (line_of order) o o' → Stored (T.context_of p order) (Calls p) h.store →
         Related p order taken
         (M.top (N.language (normal_form p order))
         (at h (Val v) (record { marked = false; work = M.Top k } ∷ [])) k o' [] es)
@@ -103,7 +107,7 @@ module _ (p : ProgramTree) (order : List Line) (input : List ℕ) (size_s : Tree
 
     -- a value is given
     pub returns-moves : (h : Ground) (v : Value) (fs : Frames) (ts : AnfFrames) (es : List Event) →
-        FramesRel (T.context_of p order) taken fs ts → Stored (T.context_of p order) h.store →
+        FramesRel (T.context_of p order) (Calls p) taken fs ts → Stored (T.context_of p order) (Calls p) h.store →
         Moves (Running (at h (Val v) ts) es) (Running (at h (Val v) fs) es)
     returns-moves h v _ _ es (top true k) st = Sim.both_move (S.returns h v (top false k) st)
     returns-moves h v _ _ es (top false k) st =

@@ -55,27 +55,28 @@ IsLong (Let xs es e) = length xs ≡ count es
 IsLong (Seq es) = 1 ≤ count es
 IsLong f = Unit {0}
 
--- its operands go in an order that has each of them once
-pub record Proper (x : Context) (s : ℕ) (f : Form) : Type 0 where
+-- its operands go in an order that has each of them once, and the lambda expressions of the node are as they are to be
+pub record Proper (x : Context) (calls : Form → Type 0) (s : ℕ) (f : Form) : Type 0 where
   pub permuted : by_operands f ≡ true → IsPermutation (numbers (x.line s) f) (count (operands f))
   pub long : IsLong f
+  pub may : calls f
 
-abbrev pub ProperNode : Context → Tree → Type 0
-ProperNode x (Node p s f) = Proper x s f
+abbrev pub ProperNode : Context → (Form → Type 0) → Tree → Type 0
+ProperNode x calls (Node p s f) = Proper x calls s f
 
 -- no element of the first list is in the second
 abbrev pub AreNew : List ℕ → List ℕ → Type 0
 AreNew ns xs = (y : ℕ) → IsIn y ns → IsIn y xs → ⊥
 
 -- an expression binds each name once, none that is free in it, and all its nodes are proper
-pub record Sound (x : Context) (n : ℕ) (e : Tree) : Type 0 where
+pub record Sound (x : Context) (calls : Form → Type 0) (n : ℕ) (e : Tree) : Type 0 where
   pub apart : IsApart (names n e)
   pub new : AreNew (names n e) (free x.inner e)
-  pub proper : Every (ProperNode x) (nodes e)
+  pub proper : Every (ProperNode x calls) (nodes e)
 
 -- the same of a node without the name of its own value
-pub record SoundForm (x : Context) (n : ℕ) (s : ℕ) (f : Form) : Type 0 where
+pub record SoundForm (x : Context) (calls : Form → Type 0) (n : ℕ) (s : ℕ) (f : Form) : Type 0 where
   pub apart : IsApart (names_form n f)
   pub new : AreNew (names_form n f) (free_form x.inner f)
-  pub here : Proper x s f
-  pub proper : Every (ProperNode x) (nodes_in f)
+  pub here : Proper x calls s f
+  pub proper : Every (ProperNode x calls) (nodes_in f)

@@ -12,7 +12,7 @@ use Rattle.tb_ir.specs.FreeVariables.{inner_free, captured, lambdas_free}
 use Rattle.tb_ir.specs.AnfTree.{ProcTree}
 use Rattle.tb_ir.specs.AnfMachine.{Code, InBlock, proc_of, captured_by, form_of}
 use Rattle.tb_ir.specs.TreeMachine.{line_of}
-use Rattle.tb_anf.specs.NormalForm.{size, size_all, AtEnd, block_of, form_procs, lambda_procs, normal_form}
+use Rattle.tb_anf.specs.NormalForm.{size, size_all, AtEnd, block_of, form_procs, lambda_proc, lambda_procs, normal_form}
 
 -- what is captured is free
 pub captured-free : (p : ProgramTree) (l y : ℕ) → IsIn y (captured p l) → IsIn y (inner_free p l)
@@ -82,3 +82,26 @@ forms_at p line n (more (Node q s f) es) first at ms (suc k) = forms_at p line (
 pub same-forms : (p : ProgramTree) (order : List Line) (k : ℕ) →
     SameForm (line_of order) (tree_at p.forms k) (form_of (slice_get (normal_form p order).procs k))
 same-forms p order k = forms_at p (line_of order) 0 p.forms 0 (size_all p.forms) p.lambdas k
+
+-- the lambda expression of a number on both sides
+pub data SameLambda (p : ProgramTree) (line : ℕ → Option (List ℕ)) (l : ℕ) : Option LambdaTree → Option ProcTree →
+    Type 0 where
+  no_lambda : SameLambda p line l None None
+  same_lambda : (n : ℕ) (m : LambdaTree) → SameLambda p line l (Some m) (Some (lambda_proc p line l n m))
+
+lambda_at : (p : ProgramTree) (line : ℕ → Option (List ℕ)) (first n : ℕ) (ms : List LambdaTree) (k l : ℕ) →
+    l ≡ first + k → SameLambda p line l (slice_get ms k) (proc_of (lambda_procs p line first n ms) l)
+lambda_at p line first n [] k l e = no_lambda
+lambda_at p line first n (m ∷ ms) zero l e =
+    let same : first ≡ l = omega arith in
+    subst (λ z. SameLambda p line z (Some m) (proc_of (lambda_procs p line first n (m ∷ ms)) z)) same
+    (rw (eq-eqb first first refl) (same_lambda n m))
+lambda_at p line first n (m ∷ ms) (suc k) l e =
+    let ne : first ≡ l → ⊥ = λ q. omega arith in
+    rw (ne_eqb first l ne) (lambda_at p line (suc first) (n + size m.body) ms k l (omega arith))
+
+pub same-lambdas : (p : ProgramTree) (order : List Line) (l : ℕ) →
+    SameLambda p (line_of order) l (slice_get p.lambdas l) (proc_of (normal_form p order).procs l)
+same-lambdas p order l =
+    subst (SameLambda p (line_of order) l (slice_get p.lambdas l)) (sym (skip_forms p (line_of order) 0 p.forms _ l))
+    (lambda_at p (line_of order) 0 (size_all p.forms) p.lambdas l l (omega arith))

@@ -81,7 +81,7 @@ done-last i a v (one_done g' e' h) g e = one_done g' e' (done-last i a v h g e)
 abbrev pub framed : {W : Type 0} → Bool → W → Frame W
 framed c w = record { marked = c; work = Own w }
 
-module _ (x : Context) (taken : ℕ → List ℕ) where
+module _ (x : Context) (calls : Form → Type 0) (taken : ℕ → List ℕ) where
   mutual
     -- when the source gives the value of an atom to this work above its frames, then the target is at this block
     -- above its own; the variables are those of `m` on which what follows in the body rests
@@ -89,14 +89,14 @@ module _ (x : Context) (taken : ℕ → List ℕ) where
       operand : (n i : ℕ) (done rest : List ℕ)
           (ds : List Operand) {m q : Env} {a : Operand} {p : Place} {s : ℕ} {f : Form} {vs : List Value}
           {k : After} {fs : Frames} {ts : AnfFrames} {needed : List ℕ} →
-          by_operands f ≡ true → SoundForm x n s f → AreNew (names_form n f) needed →
+          by_operands f ≡ true → SoundForm x calls n s f → AreNew (names_form n f) needed →
           numbers (x.line s) f ≡ done ++ i ∷ rest → slice_get (operand_atoms n f) i ≡ Some a →
           Done m (operand_atoms n f) done ds vs →
           Named (free_of_numbers x (operands f) rest ++ free_of_body x f) q m → Follows m fs k ts needed →
           Awaits m a (Args p s f vs q) fs (around (steps x.line n f) rest (finish x.line n p f k)) ts
           ((free_of_numbers x (operands f) rest ++ free_of_body x f) ++ (free_of_atoms ds ++ needed))
       arms : (n l : ℕ) {m q : Env} {a : Operand} {b c : Tree} {k : After} {fs : Frames} {ts : AnfFrames}
-          {needed : List ℕ} → Sound x n b → Sound x l c → Named (free x.inner b ++ free x.inner c) q m →
+          {needed : List ℕ} → Sound x calls n b → Sound x calls l c → Named (free x.inner b ++ free x.inner c) q m →
           AreNew (names n b ++ names l c) (free x.inner b ++ free x.inner c) → Follows m fs k ts needed →
           Awaits m a (Sel b c q) fs
           (put k (A.Branch a (block_of x.line n b AtEnd) (block_of x.line l c AtEnd))) ts
@@ -108,7 +108,7 @@ module _ (x : Context) (taken : ℕ → List ℕ) where
           {needed : List ℕ} → Follows m fs k ts needed →
           Awaits m a (SetGlo g true p) fs (put k (A.DefGlobal g a)) ts needed
       others : (n s : ℕ) {m q : Env} {a : Operand} {d : Tree} {ds : Trees} {k : After} {fs : Frames} {ts : AnfFrames}
-          {needed : List ℕ} → SoundForm x n s (Seq (more d ds)) → AreNew (names_form n (Seq (more d ds))) needed →
+          {needed : List ℕ} → SoundForm x calls n s (Seq (more d ds)) → AreNew (names_form n (Seq (more d ds))) needed →
           Named (free_all x.inner (more d ds)) q m → Follows m fs k ts needed →
           Awaits m a (Rest (more d ds) q) fs (block_of_sequence x.line (suc n) (more d ds) k) ts
           (free_all x.inner (more d ds) ++ needed)

@@ -103,7 +103,8 @@ pub record Waits (fs : Frames) (ts : AnfFrames) : Type 0 where
   pub marked : marks ts ≡ marks fs
   pub roots : (l : ℕ) → IsIn l (frames_locations N.work_values ts) → IsIn l (frames_locations T.work_values fs)
 
-module _ (x : Context) (taken : ℕ → List ℕ) (fewer : (l y : ℕ) → IsIn y (taken l) → IsIn y (x.inner l)) where
+module _ (x : Context) (calls : Form → Type 0) (taken : ℕ → List ℕ) (fewer : (l y : ℕ) → IsIn y (taken l) →
+    IsIn y (x.inner l)) where
   -- an atom of an operand that is done, or the one that is awaited
   of_atoms : (m : Env) (n i : ℕ) (f : Form) (a : Operand) (vs : List Value) (done rest : List ℕ) (ds : List Operand)
       (j y : ℕ)
@@ -123,10 +124,10 @@ module _ (x : Context) (taken : ℕ → List ℕ) (fewer : (l y : ℕ) → IsIn 
   -- what a node with some of its operands evaluated names
   operand_held : (m q : Env) (p : Place) (s n i : ℕ) (f : Form) (a : Operand) (vs : List Value) (done rest : List ℕ)
       (ds : List Operand) (k : After) (ls : List ℕ) (y : ℕ) → View x.line n f → by_operands f ≡ true →
-      SoundForm x n s f →
+      SoundForm x calls n s f →
       numbers (x.line s) f ≡ done ++ i ∷ rest → slice_get (operand_atoms n f) i ≡ Some a →
       Done m (operand_atoms n f) done ds vs → Named (free_of_numbers x (operands f) rest ++ free_of_body x f) q m →
-      (IsIn y (named_behind x taken fewer k) → Held m y ls) →
+      (IsIn y (named_behind x calls taken fewer k) → Held m y ls) →
       IsIn y (free_block taken (around (steps x.line n f) rest (finish x.line n p f k))) →
       IsIn y (free_of_atom a) ⊎ Held m y (values_locations (vs ++ env_values q) ++ ls)
   operand_held m q p s n i _ a vs done rest ds k ls y (of_let xs es e) o so ns g d c h t =
@@ -150,9 +151,9 @@ module _ (x : Context) (taken : ℕ → List ℕ) (fewer : (l y : ℕ) → IsIn 
       (named-held y c (in-right y (free_of_numbers x es rest) _ (in-without xs (free x.inner e) y w outside)))))
       (cases_Bool (is_in xs y)))
       (λ w. inr (held-more m y ls _ (λ l r. in-right l (values_locations (vs ++ env_values q)) ls r) (h w)))
-      (block-uses x taken fewer e (every-right _ _ _ so.proper) (suc n + size_all es) k y z.0))
-      (let_named x taken fewer (suc n) xs es so.here.long
-      (all_uses x taken fewer es (every-left _ _ _ so.proper)) rest within
+      (block-uses x calls taken fewer e (every-right _ _ _ so.proper) (suc n + size_all es) k y z.0))
+      (let_named x calls taken fewer (suc n) xs es so.here.long
+      (all_uses x calls taken fewer es (every-left _ _ _ so.proper)) rest within
       (block_of x.line (suc n + size_all es) e k) y t)
   operand_held m q p s n i f a vs done rest ds k ls y (plain same st fin) o so ns g d c h t =
       let per = so.here.permuted o in
@@ -162,23 +163,25 @@ module _ (x : Context) (taken : ℕ → List ℕ) (fewer : (l y : ℕ) → IsIn 
       (λ l r. in-left l _ ls (in-values-right vs (env_values q) l r))
       (named-held y c (in-left y (free_of_numbers x (operands f) rest) _ z))))
       (λ z. ⊎_elim
-      (λ w. let b = some_atom (operand_atoms n f) y (operation_named x taken fewer n p f y w) in
+      (λ w. let b = some_atom (operand_atoms n f) y (operation_named x calls taken fewer n p f y w) in
       let lt = b.4 in
       let long = operand-count n f o so.here.long in
       of_atoms m n i f a vs done rest ds b.0 y b.1 _ g d (λ l r. in-left l _ ls (in-values-left vs (env_values q) l r))
       (subst (IsIn b.0) ns (per.full b.0 (omega arith))) b.2 b.3
       (λ r. z.1 b.0 r b.1 (ap (λ u. slice_get u b.0) (sym same) ∙ b.2) b.3))
       (λ w. inr (held-more m y ls _ (λ l r. in-right l (values_locations (vs ++ env_values q)) ls r) (h w)))
-      (put_named x taken fewer k (operation n p f) y z.0))
-      (around_named x taken fewer (suc n) (operands f)
-      (all_uses x taken fewer (operands f) (operands-nodes _ f o so.proper)) rest within (put k (operation n p f)) y
+      (put_named x calls taken fewer k (operation n p f) y z.0))
+      (around_named x calls taken fewer (suc n) (operands f)
+      (all_uses x calls taken fewer (operands f) (operands-nodes _ f o so.proper)) rest within (put k
+      (operation n p f)) y
       (subst (λ u. IsIn y (free_block taken (around u rest (put k (operation n p f))))) st
       (subst (λ u. IsIn y (free_block taken (around (steps x.line n f) rest u))) (fin p k) t)))
 
   mutual
     -- what a block that awaits a value names is held above the source's frames, but for the value
-    pub awaits-held : {m : Env} {a : Operand} {w : TreeWork} {fs : Frames} {b : Block} {ts : AnfFrames} {needed : List ℕ} →
-        Awaits x taken m a w fs b ts needed → (y : ℕ) → IsIn y (free_block taken b) →
+    pub awaits-held : {m : Env} {a : Operand} {w : TreeWork} {fs : Frames} {b : Block} {ts : AnfFrames}
+        {needed : List ℕ} →
+        Awaits x calls taken m a w fs b ts needed → (y : ℕ) → IsIn y (free_block taken b) →
         IsIn y (free_of_atom a) ⊎
         Held m y (values_locations (T.work_values w) ++ frames_locations T.work_values fs)
     awaits-held {m} {a} {fs = fs}
@@ -195,18 +198,19 @@ module _ (x : Context) (taken : ℕ → List ℕ) (fewer : (l y : ℕ) → IsIn 
         ⊎_elim
         (λ z. ⊎_elim inl
         (λ r. inr (up (⊎_elim
-        (λ r'. in-left y (free x.inner b) _ (at_end_uses x taken fewer b n y (block-uses x taken fewer b sb.proper) r'))
+        (λ r'. in-left y (free x.inner b) _ (at_end_uses x calls taken fewer b n y
+        (block-uses x calls taken fewer b sb.proper) r'))
         (λ r'. in-right y (free x.inner b) _
-        (at_end_uses x taken fewer c l y (block-uses x taken fewer c sc.proper) r'))
+        (at_end_uses x calls taken fewer c l y (block-uses x calls taken fewer c sc.proper) r'))
         (in-either y (free_block taken B) (free_block taken C) r))))
         (in-either y (free_of_atom a) _ z))
         (λ z. inr (held-more m y (frames_locations T.work_values fs) _ (λ u r. in-right u env _ r)
         (follows-held h y z)))
-        (put_named x taken fewer k (A.Branch a B C) y t)
+        (put_named x calls taken fewer k (A.Branch a B C) y t)
     awaits-held {m} {a} (assigned {g = g} {p = p} {k = k} h) y t =
-        ⊎_elim inl (λ z. inr (follows-held h y z)) (put_named x taken fewer k (A.SetGlobal g a p) y t)
+        ⊎_elim inl (λ z. inr (follows-held h y z)) (put_named x calls taken fewer k (A.SetGlobal g a p) y t)
     awaits-held {m} {a} (defined {g = g} {k = k} h) y t =
-        ⊎_elim inl (λ z. inr (follows-held h y z)) (put_named x taken fewer k (A.DefGlobal g a) y t)
+        ⊎_elim inl (λ z. inr (follows-held h y z)) (put_named x calls taken fewer k (A.DefGlobal g a) y t)
     awaits-held {m} {fs = fs} (others n s {q = q} {d = d} {ds = ds} {k = k} so nw nm h) y t =
         let env = values_locations (env_values q) in
         ⊎_elim
@@ -214,10 +218,11 @@ module _ (x : Context) (taken : ℕ → List ℕ) (fewer : (l y : ℕ) → IsIn 
         (named-held y nm z)))
         (λ z. inr (held-more m y (frames_locations T.work_values fs) _ (λ u r. in-right u env _ r)
         (follows-held h y z)))
-        (sequence_uses x taken fewer (more d ds) (all_uses x taken fewer (more d ds) so.proper) (suc n) k y t)
+        (sequence_uses x calls taken fewer (more d ds) (all_uses x calls taken fewer (more d ds) so.proper)
+        (suc n) k y t)
 
     pub follows-held : {m : Env} {fs : Frames} {k : After} {ts : AnfFrames} {needed : List ℕ} →
-        Follows x taken m fs k ts needed → (y : ℕ) → IsIn y (named_behind x taken fewer k) →
+        Follows x calls taken m fs k ts needed → (y : ℕ) → IsIn y (named_behind x calls taken fewer k) →
         Held m y (frames_locations T.work_values fs)
     follows-held (at_end f) y t = absurd t
     follows-held (then {y = z} {b = b} h out) y t =
@@ -239,8 +244,9 @@ module _ (x : Context) (taken : ℕ → List ℕ) (fewer : (l y : ℕ) → IsIn 
       (h k.0 (without-sub (z ∷ []) (free_block taken b) k.0 k.2))
 
   mutual
-    pub awaits-waits : {m : Env} {a : Operand} {w : TreeWork} {fs : Frames} {b : Block} {ts : AnfFrames} {needed : List ℕ} →
-        Awaits x taken m a w fs b ts needed → Waits fs ts
+    pub awaits-waits : {m : Env} {a : Operand} {w : TreeWork} {fs : Frames} {b : Block} {ts : AnfFrames}
+        {needed : List ℕ} →
+        Awaits x calls taken m a w fs b ts needed → Waits fs ts
     awaits-waits (operand n i done rest ds o so nw ns g d c h) = follows-waits h
     awaits-waits (arms n l sb sc nm nw h) = follows-waits h
     awaits-waits (assigned h) = follows-waits h
@@ -248,7 +254,7 @@ module _ (x : Context) (taken : ℕ → List ℕ) (fewer : (l y : ℕ) → IsIn 
     awaits-waits (others n s so nw nm h) = follows-waits h
 
     pub follows-waits : {m : Env} {fs : Frames} {k : After} {ts : AnfFrames} {needed : List ℕ} →
-        Follows x taken m fs k ts needed → Waits fs ts
+        Follows x calls taken m fs k ts needed → Waits fs ts
     follows-waits (at_end f) = frames-wait f
     follows-waits (then {w = w} h out) =
         let r = awaits-waits h in
@@ -258,7 +264,7 @@ module _ (x : Context) (taken : ℕ → List ℕ) (fewer : (l y : ℕ) → IsIn 
           roots = λ l i. in-right l (values_locations (T.work_values w)) _ (r.roots l i);
         }
 
-    pub frames-wait : {fs : Frames} {ts : AnfFrames} → FramesRel x taken fs ts → Waits fs ts
+    pub frames-wait : {fs : Frames} {ts : AnfFrames} → FramesRel x calls taken fs ts → Waits fs ts
     frames-wait (top c k) = record { marked = refl; roots = λ l i. i }
     frames-wait (waiting c {m = m} {r = r} {y = y} {w = w} {b = b} {fs = fs} {ts = ts} h out e) =
         let rest = awaits-waits h in

@@ -21,6 +21,7 @@ use Rattle.tb_anf.specs.NormalForm.{After, block_of, normal_form}
 use Rattle.tb_anf.proofs.Advance.{Simple, constant, variable}
 use Rattle.tb_anf.proofs.Roots.{Held, Waits, held-more, named-held, atom-held, gather-roots, awaits-held, follows-held, awaits-waits, follows-waits, frames-wait}
 use Rattle.tb_anf.proofs.Environments.{Named}
+use Rattle.tb_anf.proofs.Calls.{Calls}
 use Rattle.tb_anf.proofs.Names.{Sound}
 use Rattle.tb_anf.proofs.Rel.{Awaits, Follows}
 use Rattle.tb_anf.proofs.States as S
@@ -119,35 +120,35 @@ module _ (p : ProgramTree) (order : List Line) where
 
     -- an expression and its block
     evals_within : (n : ℕ) (e : Tree) (q m r : Env) (k : After) (needed : List ℕ) (fs : Frames) (ts : AnfFrames) →
-        Follows x taken m fs k ts needed → Sound x n e → Named (free x.inner e) q m →
+        Follows x (Calls p) taken m fs k ts needed → Sound x (Calls p) n e → Named (free x.inner e) q m →
         r ≡ gather (free_block taken (block_of x.line n e k)) m →
         Within (Eval (InBlock (block_of x.line n e k)) r) ts (Eval e q) fs
     evals_within n e q m r k needed fs ts f so nm eq =
-        let u = follows-waits x taken fewer f in
+        let u = follows-waits x (Calls p) taken fewer f in
         let env = values_locations (env_values q) in
         cut_within m r (block_of x.line n e k) ts (Eval e q) fs eq u.marked
         (λ y i. ⊎_elim
         (λ z. held-more m y env _ (λ l v. in-left l env _ v) (named-held y nm z))
         (λ z. held-more m y (frames_locations T.work_values fs) _ (λ l v. in-right l env _ v)
-        (follows-held x taken fewer f y z))
-        (block-uses x taken fewer e so.proper n k y i))
+        (follows-held x (Calls p) taken fewer f y z))
+        (block-uses x (Calls p) taken fewer e so.proper n k y i))
         (λ l i. in-right l env _ (u.roots l i)) _ refl
 
     -- a block that awaits a value, which these locations hold
     awaits_within : (m r : Env) (a : Operand) (w : TreeWork) (b : Block) (needed : List ℕ) (fs : Frames)
         (ts : AnfFrames)
-        (j : Control Tree) → Awaits x taken m a w fs b ts needed → r ≡ gather (free_block taken b) m →
+        (j : Control Tree) → Awaits x (Calls p) taken m a w fs b ts needed → r ≡ gather (free_block taken b) m →
         ((y : ℕ) → IsIn y (free_of_atom a) → Held m y (control_locations j)) →
         Within (Eval (InBlock b) r) ts j (push w fs)
     awaits_within m r a w b needed fs ts j h eq own =
-        let u = awaits-waits x taken fewer h in
+        let u = awaits-waits x (Calls p) taken fewer h in
         let above = values_locations (T.work_values w) ++ frames_locations T.work_values fs in
         let ma = u.marked in
         cut_within m r b ts j (push w fs) eq (omega arith)
         (λ y i. ⊎_elim
         (λ z. held-more m y (control_locations j) _ (λ l v. in-left l (control_locations j) above v) (own y z))
         (λ z. held-more m y above _ (λ l v. in-right l (control_locations j) above v) z)
-        (awaits-held x taken fewer h y i))
+        (awaits-held x (Calls p) taken fewer h y i))
         (λ l i. in-right l (control_locations j) above
         (in-right l (values_locations (T.work_values w)) _ (u.roots l i)))
         _ refl
@@ -175,10 +176,10 @@ module _ (p : ProgramTree) (order : List Line) where
         (awaits_within m r a w b needed fs ts (Val v) aw eq (λ y i. atom-held m a v y va i))
     alike input _ _ (S.runs h m r j hs op {ts = ts} rd wi eq f st) = running input h _ ts j hs _ wi
     alike input _ _ (S.returns h v {fs = fs} {ts = ts} f st) =
-        let u = frames-wait x taken fewer f in
+        let u = frames-wait x (Calls p) taken fewer f in
         running input h (Val v) ts (Val v) fs _ (same_control (Val v) (Val v) fs ts refl u)
-    alike input _ _ (S.enters h callee vs {fs = fs} {ts = ts} f st) =
-        let u = frames-wait x taken fewer f in
+    alike input _ _ (S.enters h callee vs may {fs = fs} {ts = ts} f st) =
+        let u = frames-wait x (Calls p) taken fewer f in
         running input h (Entering callee vs) ts (Entering callee vs) fs _
         (same_control (Entering callee vs) (Entering callee vs) fs ts refl u)
     alike input _ _

@@ -11,7 +11,7 @@ use Rattle.tb_core.specs.Store.{Value, Unspecified, Undefined, At}
 use Rattle.tb_core.specs.Effects.{Effect, Gives, Makes, Changes, Puts, Takes, Peeks, Fails, Misused, effect_of, is_false}
 use Rattle.tb_core.specs.Lists.{Walked, Elements, TooLong, NoList, walked}
 use Rattle.tb_core.proofs.Members.{in-left, in-right}
-use Rattle.tb_ir.specs.Tree.{Tree, ProgramTree}
+use Rattle.tb_ir.specs.Tree.{Tree, Form, Lambda, ProgramTree}
 use Rattle.tb_ir.specs.FreeVariables.{free}
 use Rattle.tb_ir.specs.AnfTree as A
 use Rattle.tb_ir.specs.AnfTree.{Operand, Block, Op}
@@ -24,6 +24,7 @@ use Rattle.tb_ir.specs.AnfMachine.{Code, InBlock, InOp, AnfWork, AnfConfig, AnfS
 use Rattle.tb_ir.specs.Space.{marks, control_locations, frames_locations}
 use Rattle.tb_anf.specs.NormalForm.{After, AtEnd, block_of}
 use Rattle.tb_anf.proofs.Environments.{Named, Values, named-sub, named-gather, named-gathers, gather-sub, lookup-gather, atom-gather, values-gather, values-there}
+use Rattle.tb_anf.proofs.Calls.{Calls, MayClose, MayEnter}
 use Rattle.tb_anf.proofs.Names.{names, AreNew, Sound}
 use Rattle.tb_anf.proofs.Rel.{Awaits, Follows, at_end, FramesRel, mark-frames}
 use Rattle.tb_anf.proofs.Advance.{Simple}
@@ -51,12 +52,12 @@ pub record Within (k : Control Code) (ts : AnfFrames) (j : Control Tree) (fs : F
   pub roots : (l : ℕ) → IsIn l (control_locations k ++ frames_locations N.work_values ts) →
       IsIn l (control_locations j ++ frames_locations T.work_values fs)
 
-module _ (x : Context) where
-  -- a procedure has what it captures
+module _ (x : Context) (calls : Form → Type 0) where
+  -- a procedure has what it captures, and its lambda expression is as it is to be
   abbrev pub HasCaptured : Item → Type 0
   HasCaptured (Cell v) = Unit {0}
   HasCaptured (Obj o) = Unit {0}
-  HasCaptured (Clo l r) = (y : ℕ) → IsIn y (x.captured l) → (v : Value) × (lookup r y ≡ Some v)
+  HasCaptured (Clo l r) = calls (Lambda l) × ((y : ℕ) → IsIn y (x.captured l) → (v : Value) × (lookup r y ≡ Some v))
 
   abbrev pub Stored : List Item → Type 0
   Stored st = Every HasCaptured st
@@ -93,57 +94,65 @@ module _ (p : ProgramTree) (order : List Line) (taken : ℕ → List ℕ) where
         Ready m d es fs (A.CellGet a q) (M.get_cell d q v fs es)
     cell_set : (a b : Operand) (v u : Value) → Values m (a ∷ b ∷ []) (v ∷ u ∷ []) →
         Ready m d es fs (A.CellSet a b) (M.set_cell d v u fs es)
-    close : (l : ℕ) (q : Env) → d.frames ≡ fs → Named (source.captured l) q m →
+    close : (l : ℕ) (q : Env) → MayClose p l → d.frames ≡ fs → Named (source.captured l) q m →
         Ready m d es fs (A.Close l) (M.make_closure d l (source.captured l) q es)
     call : (a : Operand) (ds : List Operand) (q : Place) (v : Value) (vs : List Value) → Values m (a ∷ ds) (v ∷ vs) →
         Ready m d es fs (A.Call a ds q) (M.enter d q v vs fs es)
-    direct : (l : ℕ) (ds : List Operand) (vs : List Value) → Values m ds vs →
+    direct : (l : ℕ) (ds : List Operand) (vs : List Value) → MayEnter p l → Values m ds vs →
         Ready m d es fs (A.Direct l ds) (M.enter_lifted d l vs fs es)
     apply : (a b : Operand) (q : Place) (v u : Value) → Values m (a ∷ b ∷ []) (v ∷ u ∷ []) →
         Ready m d es fs (A.Apply a b q) (M.apply d q v u fs es)
     branch : (a : Operand) (v : Value) (n l : ℕ) (b c : Tree) (q : Env) → atom_value m a ≡ Some v →
-        Sound source n b → Sound source l c → Named (free source.inner b ++ free source.inner c) q m →
+        Sound source (Calls p) n b → Sound source (Calls p) l c →
+        Named (free source.inner b ++ free source.inner c) q m →
         Ready m d es fs (A.Branch a (block_of source.line n b AtEnd) (block_of source.line l c AtEnd))
         (cond (is_false v) (T.evaluate_cut source d c q fs es) (T.evaluate_cut source d b q fs es))
+
+  -- what is entered without a procedure may be
+  abbrev pub MayRun : Callee → Type 0
+  MayRun (Closure l) = Unit {0}
+  MayRun (Lifted m) = MayEnter p m
 
   pub data Related : AnfState → TreeState → Type 0 where
     -- an expression and its block
     evals : (h : Ground) (n : ℕ) (e : Tree) (q m r : Env) (k : After)
         (needed : List ℕ) {fs : Frames} {ts : AnfFrames} {es : List Event} →
-        Follows source taken m fs k ts needed → Sound source n e → AreNew (names n e) needed →
+        Follows source (Calls p) taken m fs k ts needed → Sound source (Calls p) n e → AreNew (names n e) needed →
         Named (free source.inner e) q m → r ≡ gather (free_block taken (block_of source.line n e k)) m →
-        Stored source h.store →
+        Stored source (Calls p) h.store →
         Related (Running (at h (Eval (InBlock (block_of source.line n e k)) r) ts) es) (Running (at h (Eval e q) fs) es)
     -- an operand that is an atom is not read yet
     reads : (h : Ground) (e : Tree) (a : Operand) (q m r : Env) (w : TreeWork) (b : Block)
         (needed : List ℕ) {fs : Frames} {ts : AnfFrames}
-        {es : List Event} → Simple e a → Awaits source taken m a w fs b ts needed →
-        Named (free source.inner e) q m → r ≡ gather (free_block taken b) m → Stored source h.store →
+        {es : List Event} → Simple e a → Awaits source (Calls p) taken m a w fs b ts needed →
+        Named (free source.inner e) q m → r ≡ gather (free_block taken b) m → Stored source (Calls p) h.store →
         Related (Running (at h (Eval (InBlock b) r) ts) es) (Running (at h (Eval e q) (push w fs)) es)
     gives : (h : Ground) (v : Value) (a : Operand) (m r : Env) (w : TreeWork) (b : Block)
         (needed : List ℕ) {fs : Frames} {ts : AnfFrames}
-        {es : List Event} → Awaits source taken m a w fs b ts needed → atom_value m a ≡ Some v →
-        r ≡ gather (free_block taken b) m → Stored source h.store →
+        {es : List Event} → Awaits source (Calls p) taken m a w fs b ts needed → atom_value m a ≡ Some v →
+        r ≡ gather (free_block taken b) m → Stored source (Calls p) h.store →
         Related (Running (at h (Eval (InBlock b) r) ts) es) (Running (at h (Val v) (push w fs)) es)
     -- an operation is next
     runs : (h : Ground) (m r : Env) (j : Control Tree) (hs : Frames)
         (op : Op) {fs : Frames} {ts : AnfFrames} {es : List Event} →
         Ready m (at h j hs) es fs op (M.step (T.language p order) (Running (at h j hs) es)) →
-        Within (Eval (InOp op) r) ts j hs → r ≡ gather (free_op taken op) m → FramesRel source taken fs ts →
-        Stored source h.store → Related (Running (at h (Eval (InOp op) r) ts) es) (Running (at h j hs) es)
-    returns : (h : Ground) (v : Value) {fs : Frames} {ts : AnfFrames} {es : List Event} → FramesRel source taken fs ts →
-        Stored source h.store → Related (Running (at h (Val v) ts) es) (Running (at h (Val v) fs) es)
-    enters : (h : Ground) (callee : Callee) (vs : List Value) {fs : Frames} {ts : AnfFrames} {es : List Event} →
-        FramesRel source taken fs ts → Stored source h.store →
+        Within (Eval (InOp op) r) ts j hs → r ≡ gather (free_op taken op) m → FramesRel source (Calls p) taken fs ts →
+        Stored source (Calls p) h.store → Related (Running (at h (Eval (InOp op) r) ts) es) (Running (at h j hs) es)
+    returns : (h : Ground) (v : Value) {fs : Frames} {ts : AnfFrames} {es : List Event} →
+        FramesRel source (Calls p) taken fs ts →
+        Stored source (Calls p) h.store → Related (Running (at h (Val v) ts) es) (Running (at h (Val v) fs) es)
+    enters : (h : Ground) (callee : Callee) (vs : List Value) → MayRun callee →
+        {fs : Frames} {ts : AnfFrames} {es : List Event} →
+        FramesRel source (Calls p) taken fs ts → Stored source (Calls p) h.store →
         Related (Running (at h (Entering callee vs) ts) es) (Running (at h (Entering callee vs) fs) es)
     -- procedures that name one another are made, and the environments are not cut yet
     bound : (h : Ground) (n : ℕ) (e : Tree) (q m r : Env) (k : After)
         (needed : List ℕ) {fs : Frames} {ts : AnfFrames} {es : List Event} →
-        Follows source taken m fs k ts needed → Sound source n e → AreNew (names n e) needed →
+        Follows source (Calls p) taken m fs k ts needed → Sound source (Calls p) n e → AreNew (names n e) needed →
         Named (free source.inner e) q m →
         gather (free_block taken (block_of source.line n e k)) r ≡ gather
         (free_block taken (block_of source.line n e k)) m →
-        Stored source h.store →
+        Stored source (Calls p) h.store →
         Within (Bound (InBlock (block_of source.line n e k)) r) ts (Bound e q) fs →
         Related (Running (at h (Bound (InBlock (block_of source.line n e k)) r) ts) es)
         (Running (at h (Bound e q) fs) es)
@@ -154,7 +163,8 @@ module _ (p : ProgramTree) (order : List Line) (taken : ℕ → List ℕ) where
 
   -- what both machines do alike, above related frames
   module _ (h : Ground) (k : Control Code) (ts : AnfFrames) (j : Control Tree) (hs fs : Frames)
-      (within : Within k ts j hs) (rel : FramesRel source taken fs ts) (st : Stored source h.store) where
+      (within : Within k ts j hs) (rel : FramesRel source (Calls p) taken fs ts) (st : Stored source
+      (Calls p) h.store) where
     abbrev c : AnfConfig
     c = at h k ts
 
@@ -170,13 +180,14 @@ module _ (p : ProgramTree) (order : List Line) (taken : ℕ → List ℕ) where
     gives_value : (v : Value) (es : List Event) → Related (M.go c (Val v) ts es) (M.go d (Val v) fs es)
     gives_value v es = returns h v rel st
 
-    adds : (i : Item) (v : Value) (es : List Event) → HasCaptured source i →
+    adds : (i : Item) (v : Value) (es : List Event) → HasCaptured source (Calls p) i →
         Related (M.go_with c (Val v) ts (h.store ++ i ∷ []) es) (M.go_with d (Val v) fs (h.store ++ i ∷ []) es)
-    adds i v es o = returns (record h { store = h.store ++ i ∷ [] }) v rel (stored-more source h.store i st o)
+    adds i v es o = returns (record h { store = h.store ++ i ∷ [] }) v rel (stored-more source (Calls p) h.store i st o)
 
-    writes : (l : ℕ) (i : Item) (v : Value) (es : List Event) → HasCaptured source i →
+    writes : (l : ℕ) (i : Item) (v : Value) (es : List Event) → HasCaptured source (Calls p) i →
         Related (M.go_with c (Val v) ts (slice_set h.store l i) es) (M.go_with d (Val v) fs (slice_set h.store l i) es)
-    writes l i v es o = returns (record h { store = slice_set h.store l i }) v rel (stored-set source h.store l i st o)
+    writes l i v es o = returns (record h { store = slice_set h.store l i }) v rel (stored-set source
+        (Calls p) h.store l i st o)
 
     assigns : (g : ℕ) (v : Value) (es : List Event) →
         Related (M.assign_global c g v ts es) (M.assign_global d g v fs es)
@@ -236,7 +247,7 @@ module _ (p : ProgramTree) (order : List Line) (taken : ℕ → List ℕ) where
     enters_at q l None vs es = fails _ q es
     enters_at q l (Some (Obj o)) vs es = fails _ q es
     enters_at q l (Some (Cell v)) vs es = fails _ q es
-    enters_at q l (Some (Clo m r)) vs es = enters h (Closure l) vs (mark-frames source taken rel) st
+    enters_at q l (Some (Clo m r)) vs es = enters h (Closure l) vs tt (mark-frames source (Calls p) taken rel) st
 
     enters_value : (q : Place) (v : Value) (vs : List Value) (es : List Event) →
         Related (M.enter c q v vs ts es) (M.enter d q v vs fs es)
@@ -245,7 +256,7 @@ module _ (p : ProgramTree) (order : List Line) (taken : ℕ → List ℕ) where
 
     applies_to : (q : Place) (l m : ℕ) (w : Walked) (es : List Event) →
         Related (M.apply_to c q l m w ts es) (M.apply_to d q l m w fs es)
-    applies_to q l m (Elements vs) es = enters h (Closure l) vs (mark-frames source taken rel) st
+    applies_to q l m (Elements vs) es = enters h (Closure l) vs tt (mark-frames source (Calls p) taken rel) st
     applies_to q l m TooLong es = fails _ q es
     applies_to q l m NoList es = fails _ q es
 
@@ -265,16 +276,17 @@ module _ (p : ProgramTree) (order : List Line) (taken : ℕ → List ℕ) where
         Related (M.read_value c q o es) (M.read_value d q o es)
     reads_value e q None es = loses es
     reads_value e q (Some Undefined) es = fails _ q es
-    reads_value e q (Some v) es = returns h v (subst (λ z. FramesRel source taken z ts) (sym e) rel) st
+    reads_value e q (Some v) es = returns h v (subst (λ z. FramesRel source (Calls p) taken z ts) (sym e) rel) st
 
     makes_closure : hs ≡ fs → (l : ℕ) (q r : Env) (xs : List ℕ) (es : List Event) →
-        gather xs r ≡ gather (source.captured l) q → HasCaptured source (Clo l (gather (source.captured l) q)) →
+        gather xs r ≡ gather (source.captured l) q → HasCaptured source (Calls p) (Clo l (gather
+        (source.captured l) q)) →
         Related (M.make_closure c l xs r es) (M.make_closure d l (source.captured l) q es)
     makes_closure e l q r xs es g o =
         subst (λ z. Related (M.go_with c (Val (At (length h.store))) ts (h.store ++ Clo l z ∷ []) es)
         (M.make_closure d l (source.captured l) q es)) (sym g)
         (returns (record h { store = h.store ++ Clo l (gather (source.captured l) q) ∷ [] }) _
-        (subst (λ z. FramesRel source taken z ts) (sym e) rel) (stored-more source h.store _ st o))
+        (subst (λ z. FramesRel source (Calls p) taken z ts) (sym e) rel) (stored-more source (Calls p) h.store _ st o))
 
   atom_there : (xs : List ℕ) (m r : Env) (a : Operand) (v : Value) → r ≡ gather xs m →
       ((y : ℕ) → IsIn y (free_of_atom a) → IsIn y xs) → atom_value m a ≡ Some v → atom_value r a ≡ Some v
@@ -289,7 +301,8 @@ module _ (p : ProgramTree) (order : List Line) (taken : ℕ → List ℕ) where
 
   -- an arm of a branch
   arm : (h : Ground) (k : Control Code) (ts : AnfFrames) (j : Control Tree) (hs fs : Frames) (n : ℕ) (e : Tree)
-      (m q r : Env) (es : List Event) → FramesRel source taken fs ts → Stored source h.store → Sound source n e →
+      (m q r : Env) (es : List Event) → FramesRel source (Calls p) taken fs ts → Stored source (Calls p) h.store →
+      Sound source (Calls p) n e →
       Named (free source.inner e) q m →
       gather (free_block taken (block_of source.line n e AtEnd)) r ≡ gather
       (free_block taken (block_of source.line n e AtEnd)) m →
@@ -307,8 +320,8 @@ module _ (p : ProgramTree) (order : List Line) (taken : ℕ → List ℕ) where
   -- an operation with the values of its atoms
   pub run-op : ((l : ℕ) → taken l ≡ source.captured l) → (h : Ground) (m r : Env) (j : Control Tree) (hs fs : Frames)
       (ts : AnfFrames) (es : List Event) (op : Op) (next : TreeState) → Ready m (at h j hs) es fs op next →
-      Within (Eval (InOp op) r) ts j hs → r ≡ gather (free_op taken op) m → FramesRel source taken fs ts →
-      Stored source h.store → Related (N.run_op taken (at h (Eval (InOp op) r) ts) op r es) next
+      Within (Eval (InOp op) r) ts j hs → r ≡ gather (free_op taken op) m → FramesRel source (Calls p) taken fs ts →
+      Stored source (Calls p) h.store → Related (N.run_op taken (at h (Eval (InOp op) r) ts) op r es) next
   run-op same h m r j hs fs ts es op next (atom a v k) wi e rel st =
       subst (λ o. Related (M.give_value (at h (Eval (InOp op) r) ts) o es) next)
       (sym (atom_there _ m r a v e (λ y i. i) k))
@@ -345,21 +358,21 @@ module _ (p : ProgramTree) (order : List Line) (taken : ℕ → List ℕ) where
       (N.run_cell_set (at h (Eval (InOp op) r) ts) es)) next)
       (sym (atoms_there _ m r (a ∷ b ∷ []) (v ∷ u ∷ []) e (two_atoms a b) k))
       (sets h (Eval (InOp op) r) ts j hs fs wi rel st v u es)
-  run-op same h m r j hs fs ts es op next (close l q f k) wi e rel st =
+  run-op same h m r j hs fs ts es op next (close l q g f k) wi e rel st =
       makes_closure h (Eval (InOp op) r) ts j hs fs wi rel st f l q r (taken l) es
       (ap (gather (taken l)) e ∙ (gather-sub (taken l) (taken l) m (λ y i. i)
       ∙ (ap (λ xs. gather xs m) (same l) ∙ sym (named-gathers k))))
-      (λ y i. let n = k.has y i in (n.0, lookup-gather (source.captured l) q y i ∙ n.1))
+      (g, λ y i. let n = k.has y i in (n.0, lookup-gather (source.captured l) q y i ∙ n.1))
   run-op same h m r j hs fs ts es op next (call a ds q v vs k) wi e rel st =
       subst (λ o. Related (N.with_values (at h (Eval (InOp op) r) ts) o es
       (N.run_call (at h (Eval (InOp op) r) ts) q es)) next)
       (sym (atoms_there _ m r (a ∷ ds) (v ∷ vs) e (λ y i. i) k))
       (enters_value h (Eval (InOp op) r) ts j hs fs wi rel st q v vs es)
-  run-op same h m r j hs fs ts es op next (direct l ds vs k) wi e rel st =
+  run-op same h m r j hs fs ts es op next (direct l ds vs g k) wi e rel st =
       subst (λ o. Related (N.with_values (at h (Eval (InOp op) r) ts) o es
       (λ us. M.enter_lifted (at h (Eval (InOp op) r) ts) l us ts es)) next)
       (sym (atoms_there _ m r ds vs e (λ y i. i) k))
-      (enters h (Lifted l) vs (mark-frames source taken rel) st)
+      (enters h (Lifted l) vs g (mark-frames source (Calls p) taken rel) st)
   run-op same h m r j hs fs ts es op next (apply a b q v u k) wi e rel st =
       subst (λ o. Related (N.with_values (at h (Eval (InOp op) r) ts) o es
       (N.run_apply (at h (Eval (InOp op) r) ts) q es)) next)

@@ -55,7 +55,8 @@ some_variable [] y i = absurd i
 some_variable (x ∷ xs) y (inl e) = (0, ap Some e, omega arith)
 some_variable (x ∷ xs) y (inr i) = let r = some_variable xs y i in (suc r.0, r.1, (let lt = r.2 in omega arith))
 
-module _ (x : Context) (taken : ℕ → List ℕ) (fewer : (l y : ℕ) → IsIn y (taken l) → IsIn y (x.inner l)) where
+module _ (x : Context) (calls : Form → Type 0) (taken : ℕ → List ℕ) (fewer : (l y : ℕ) → IsIn y (taken l) →
+    IsIn y (x.inner l)) where
   abbrev pub named_in : Block → List ℕ
   named_in b = free_block taken b
 
@@ -177,7 +178,7 @@ module _ (x : Context) (taken : ℕ → List ℕ) (fewer : (l y : ℕ) → IsIn 
   operation_named n p _ y i = absurd i
 
   -- a node whose operation comes behind all its operands
-  operands_named : (n s : ℕ) (p : Place) (f : Form) (k : After) (y : ℕ) → by_operands f ≡ true → Proper x s f →
+  operands_named : (n s : ℕ) (p : Place) (f : Form) (k : After) (y : ℕ) → by_operands f ≡ true → Proper x calls s f →
       operand_atoms n f ≡ atoms (suc n) (operands f) → AllUse (operands f) →
       IsIn y (named_in
       (around (bound_operands x.line (suc n) (operands f)) (numbers (x.line s) f) (put k (operation n p f)))) →
@@ -195,7 +196,7 @@ module _ (x : Context) (taken : ℕ → List ℕ) (fewer : (l y : ℕ) → IsIn 
       (around_named (suc n) (operands f) u (numbers (x.line s) f) per.within (put k (operation n p f)) y i)
 
   let_uses : (n s : ℕ) (p : Place) (xs : List ℕ) (es : Trees) (e : Tree) (k : After) (y : ℕ) →
-      Proper x s (Let xs es e) → AllUse es → Uses e →
+      Proper x calls s (Let xs es e) → AllUse es → Uses e →
       IsIn y (named_in (block_of x.line n (Node p s (Let xs es e)) k)) →
       IsIn y (free_form x.inner (Let xs es e)) ⊎ IsIn y (named_behind k)
   let_uses n s p xs es e k y pr u ue i =
@@ -271,10 +272,11 @@ module _ (x : Context) (taken : ℕ → List ℕ) (fewer : (l y : ℕ) → IsIn 
   without_rest xs y Z i = ⊎_elim (λ j. ⊎_elim inl (λ z. absurd z) (in-either y xs [] j)) inr i
 
   mutual
-    pub block-uses : (e : Tree) → Every (ProperNode x) (nodes e) → Uses e
+    pub block-uses : (e : Tree) → Every (ProperNode x calls) (nodes e) → Uses e
     block-uses (Node p s f) a = λ n k y i. form_uses p s f a.0 a.1 n k y i
 
-    form_uses : (p : Place) (s : ℕ) (f : Form) → Proper x s f → Every (ProperNode x) (nodes_in f) → (n : ℕ) (k : After)
+    form_uses : (p : Place) (s : ℕ) (f : Form) → Proper x calls s f → Every (ProperNode x calls) (nodes_in f) →
+        (n : ℕ) (k : After)
         (y : ℕ) → IsIn y (named_in (block_of x.line n (Node p s f) k)) →
         IsIn y (free_form x.inner f) ⊎ IsIn y (named_behind k)
     form_uses p s (Quote c) pr a n k y i = put_named k _ y i
@@ -314,7 +316,7 @@ module _ (x : Context) (taken : ℕ → List ℕ) (fewer : (l y : ℕ) → IsIn 
         (more_use f (more l none) (block-uses f (every-left _ (nodes f) _ a))
         (more_use l none (block-uses l (every-right _ (nodes f) _ a)) none_use)) i
 
-    pub all_uses : (es : Trees) → Every (ProperNode x) (nodes_of es) → AllUse es
+    pub all_uses : (es : Trees) → Every (ProperNode x calls) (nodes_of es) → AllUse es
     all_uses none a = none_use
     all_uses (more e es) a =
         more_use e es (block-uses e (every-left _ (nodes e) _ a)) (all_uses es (every-right _ (nodes e) _ a))

@@ -35,7 +35,7 @@ use Rattle.tb_codegen.proofs.Envs.{get-set, get-set-other, get-within}
 use Rattle.tb_codegen.proofs.Holding.{pushed, under_name}
 use Rattle.tb_codegen.proofs.Moves.{done}
 use Rattle.tb_codegen.proofs.Ok.{Calls, from_away, from_ready, HasNote, IsWritten, Lifts, free}
-use Rattle.tb_codegen.proofs.Operands.{Opers, op_none, op_more, at_op, fails_op, op_starts, opers, opers_length, opers_values, value-gather}
+use Rattle.tb_codegen.proofs.Operands.{found_location, Opers, op_none, op_more, at_op, fails_op, op_starts, opers, opers_length, opers_values, value-gather}
 use Rattle.tb_codegen.proofs.Rel.{AboutTo, AtCall, Closed, FsRel, f_none, f_then, f_top, Goes, Has, HasAny, Holds, Ins, in_none, in_more, JRel, j_caller, j_then, j_top, Link, Lk, Means, m_name, Memory, ORel, o_cell, o_pair, o_vector, o_string, o_symbol, o_procedure, OwnRel, o_away, o_ready, PtRel, at_block, IsCut, Rel, r_calls, r_lifted, Saved, WRel, w_fix, w_char, w_false, w_true, w_nil, w_unspecified, w_undefined, w_end, w_at, Whole, World, at_top, config, meaning, step_of, tag_of, waits}
 use Rattle.tb_codegen.proofs.Sim.{Sim, Still, machine, source, target}
 
@@ -54,21 +54,6 @@ kind_of w u v w_unspecified = k_data (λ h t k. refl) refl (λ l e. cc)
 kind_of w u v w_undefined = k_data (λ h t k. refl) refl (λ l e. cc)
 kind_of w u v w_end = k_data (λ h t k. refl) refl (λ l e. cc)
 kind_of w u v (w_at i) = k_at i
-
--- the locations of a variable that is found
-pub found_location : (r : Env) (x : ℕ) (v : Value) (l : ℕ) → lookup r x ≡ Some v → IsIn l (value_locations v) → IsIn l (values_locations (env_values r))
-found_location Empty x v l e i = cc
-found_location (Env.Bind y u r) x v l e i =
-    ⊎_elim
-    (λ (q : y ≡ x).
-    let f : lookup (Env.Bind y u r) y ≡ Some u = rw (eq-eqb y y refl) refl in
-    let s : u ≡ v = cc (f, e, q) in
-    in-left (value_locations u) _ l (subst (λ v. IsIn l (value_locations v)) (sym s) i))
-    (λ ne. in-right (value_locations u) _ l (found_location r x v l (sym (later y u r x ne) ∙ e) i))
-    (cases_eq y x)
-  where
-    later : (y : ℕ) (u : Value) (r : Env) (x : ℕ) → (y ≡ x → ⊥) → lookup (Env.Bind y u r) x ≡ lookup r x
-    later y u r x ne = rw (ne_eqb y x ne) refl
 
 -- those of an operand
 pub operand_location : (statics : List Static) (old : List Entry) (q : Spot) (d : Operand) (xs : List ℕ) (r : Env) (v : Value) (l : ℕ) →
@@ -109,13 +94,11 @@ module _ (p : AnfTree) (notes : List Note) (limit : ℕ) where
 
   saved_backs : (w : World) (st : List Item) (o : Option (List ℕ)) (old ret : List Entry) (r : Env) (rs qs : List Env) (regs slots : List Word) →
       qs ≡ pushed p [] [] o r rs → Backs o ret old → Holds p st w (r ∷ rs) regs slots old → Saved w qs slots ret
-  saved_backs w st o old ret r rs qs regs slots e b h = record {
-    saved = λ q s i. ⊎_elim inl
-        (λ k.
-        let a = h.holds (Slot k.0) k.1 k.3 in
-        inr (k.0, k.2, record { value = a.value; word = a.word; means = subst (λ qs. meaning (Empty ∷ qs) s ≡ Some a.value) (sym e) (under_name p st st o [] r Empty rs k.1 s a.value (λ y i. absurd i) k.4 a.means); here = a.here; rel = a.rel }))
-        (b.backs q s i);
-  }
+  saved_backs w st o old ret r rs qs regs slots e b h = record { saved = λ q s i. ⊎_elim inl
+      (λ k.
+      let a = h.holds (Slot k.0) k.1 k.3 in
+      inr (k.0, k.2, record { value = a.value; word = a.word; means = subst (λ qs. meaning (Empty ∷ qs) s ≡ Some a.value) (sym e) (under_name p st st o [] r Empty rs k.1 s a.value (λ y i. absurd i) k.4 a.means); here = a.here; rel = a.rel }))
+      (b.backs q s i) }
 
   caller_frames : (w : World) (gs : Waiting) (qs : List Env) (hs fs : AnfFrames) (ms : List MacFrame) → gs ≡ ToCaller → JRel gs qs hs fs → FsRel p notes w fs ms → CallsTo w hs ms
   caller_frames w gs qs hs fs ms e j_caller (f_then x k l r n j long s f) = record { first = waits true x k r; others = _; marked = refl; rel = f_then x k l r n j long s f }
@@ -208,20 +191,11 @@ module _ (p : AnfTree) (notes : List Note) (limit : ℕ) where
         let item : slice_get x.st l ≡ Some (Clo m (bind_all (captured_in p m) caught Empty)) = there ∙ ap (λ r. Some (Clo m r)) er in
         let number : slice_get (slice_set x.regs 16 (W.Fix (pos n))) 16 ≡ Some (W.Fix (pos (length vs))) = get-set x.regs 16 (W.Fix (pos n)) (omega arith) ∙ ap (λ n. Some (W.Fix (pos n))) (en ∙ lb) in
         let call : AtCall p w x.st m (slice_set x.regs 16 (W.Fix (pos n))) l vs = record {
-          itself = a;
-          caught = caught;
-          link = subst (λ t. IsIn (Lk t a l) w) tg lk;
-          item = item;
-          long = long;
-          reg0 = get-set-other x.regs 16 0 _ _ (λ z. omega arith) (e0 ∙ ap (λ t. Some (W.Pointer t a)) tg);
-          number = number;
-          few = subst (λ n. n ≤ 12) (en ∙ lb) le;
-          ops = opers_ins w r x.regs (W.Fix (pos n)) 1 ds us vs (omega arith) ops;
-        } in
+          itself = a; caught = caught; link = subst (λ t. IsIn (Lk t a l) w) tg lk; item = item; long = long;
+          reg0 = get-set-other x.regs 16 0 _ _ (λ z. omega arith) (e0 ∙ ap (λ t. Some (W.Pointer t a)) tg); number = number; few = subst (λ n. n ≤ 12) (en ∙ lb) le; ops = opers_ins w r x.regs (W.Fix (pos n)) 1 ds us vs (omega arith) ops } in
         let about : AboutTo p notes (config p notes (Eval (InOp (Call f ds q)) (gather (free_op (captured_in p) (Call f ds q)) r)) s.0 x.globals x.st x.cin x.met) (Closure l) vs m x.es (l ∷ values_locations vs) = record {
           enters = rw (values, there) refl;
-          reached = λ z i. root (⊎_elim (in-left (below (length p.statics)) _ z) (λ g. in-right (below (length p.statics)) _ z (in-left (values_locations (env_values (gather (free_op (captured_in p) (Call f ds q)) r))) _ z g)) (reach z i));
-        } in
+          reached = λ z i. root (⊎_elim (in-left (below (length p.statics)) _ z) (λ g. in-right (below (length p.statics)) _ z (in-left (values_locations (env_values (gather (free_op (captured_in p) (Call f ds q)) r))) _ z g)) (reach z i)) } in
         rw (e0, tg, hd, cd) (1, (w, rw (s.1 x) (r_calls x.es note call about to.marked to.rel mem (length-set x.regs 16 (W.Fix (pos n)) ∙ len))), inl (omega arith))
 
     invoked : (x : Still) {w : World} {n : ℕ} {f : Operand} {ds : List Operand} {q : Place} {b : Block} {js gs : Waiting} {o : Option (List ℕ)}
@@ -284,6 +258,5 @@ module _ (p : AnfTree) (notes : List Note) (limit : ℕ) where
         let about : AboutTo p notes (config p notes (Eval (InOp (Direct m ds)) (gather F r)) s.0 x.globals x.st x.cin x.met) (Lifted m) t.1 m x.es (values_locations t.1) = record {
           enters = rw values refl;
           reached = λ z i. root (⊎_elim (in-left (below (length p.statics)) _ z) (λ g. in-right (below (length p.statics)) _ z (in-left (values_locations (env_values (gather F r))) _ z g))
-              (operands_location w p.statics old _ ds F r x.regs t.0 t.1 z wr args (λ y i. i) t.2 i));
-        } in
+              (operands_location w p.statics old _ ds F r x.regs t.0 t.1 z wr args (λ y i. i) t.2 i)) } in
         (1, (w, rw (s.1 x) (r_lifted x.es g n lf starts (sym (opers_length w r x.regs _ ds t.0 t.1 t.2) ∙ count) (opers_ins_same w r x.regs 1 ds t.0 t.1 t.2) about to.marked to.rel mem len)), inl (omega arith))

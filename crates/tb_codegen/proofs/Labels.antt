@@ -32,7 +32,7 @@ marks-append [] js = refl
 marks-append (Mark l n ∷ is) js = ap (λ ls. l ∷ ls) (marks-append is js)
 marks-append (Does i n p ∷ is) js = marks-append is js
 
-no-marks : (is js : List Noted) → marks is ≡ [] → marks (is ++ js) ≡ marks js
+pub no-marks : (is js : List Noted) → marks is ≡ [] → marks (is ++ js) ≡ marks js
 no-marks is js e = marks-append is js ∙ ap (λ ls. ls ++ marks js) e
 
 -- labels from one on and below another, each once
@@ -74,32 +74,31 @@ joined lo mid hi xs ys a b f g = record {
 branched : (l m hi : ℕ) (xs ys zs : List ℕ) → l + 2 ≤ m → m ≤ hi → Within (l + 2) m xs → Within m hi ys → Within l (l + 1) zs →
     Within l hi (xs ++ (suc l ∷ (ys ++ zs)))
 branched l m hi xs ys zs a b f g h = record {
-  apart = apart-join xs (suc l ∷ (ys ++ zs)) f.apart (
-    (λ i. ⊎_elim (λ j. let k = g.low (suc l) j in omega (arith, k, a)) (λ j. let k = h.high (suc l) j in omega (arith, k)) (in-cases ys zs (suc l) i)),
-    apart-join ys zs g.apart h.apart (λ n i j. let x = g.low n i in let y = h.high n j in omega (arith, x, y, a)),
-  )
-      (λ n i j. ⊎_elim
+  apart = apart-join xs (suc l ∷ (ys ++ zs)) f.apart
+    ((λ i. ⊎_elim (λ j. let k = g.low (suc l) j in omega (arith, k, a)) (λ j. let k = h.high (suc l) j in omega (arith, k)) (in-cases ys zs (suc l) i)),
+    apart-join ys zs g.apart h.apart (λ n i j. let x = g.low n i in let y = h.high n j in omega (arith, x, y, a)))
+    (λ n i j. ⊎_elim
       (λ e. let x = f.low n i in omega (arith, x, e))
       (λ k. ⊎_elim (λ u. let x = f.high n i in let y = g.low n u in omega (arith, x, y)) (λ u. let x = f.low n i in let y = h.high n u in omega (arith, x, y)) (in-cases ys zs n k))
       j);
   low = λ n i. ⊎_elim
-      (λ j. let x = f.low n j in omega (arith, x))
-      (λ j. ⊎_elim
+    (λ j. let x = f.low n j in omega (arith, x))
+    (λ j. ⊎_elim
       (λ e. omega (arith, e))
       (λ k. ⊎_elim (λ u. let x = g.low n u in omega (arith, x, a)) (λ u. h.low n u) (in-cases ys zs n k))
       j)
-      (in-cases xs (suc l ∷ (ys ++ zs)) n i);
+    (in-cases xs (suc l ∷ (ys ++ zs)) n i);
   high = λ n i. ⊎_elim
-      (λ j. let x = f.high n j in omega (arith, x, b))
-      (λ j. ⊎_elim
+    (λ j. let x = f.high n j in omega (arith, x, b))
+    (λ j. ⊎_elim
       (λ e. omega (arith, e, a, b))
       (λ k. ⊎_elim (λ u. g.high n u) (λ u. let x = h.high n u in omega (arith, x, a, b)) (in-cases ys zs n k))
       j)
-      (in-cases xs (suc l ∷ (ys ++ zs)) n i);
+    (in-cases xs (suc l ∷ (ys ++ zs)) n i);
 }
 
 -- items without labels
-loads-none : (c : Body) (pt : Point) (a : ℕ) (ds : List Operand) (es : List Entry) → marks (loads c pt a ds es) ≡ []
+pub loads-none : (c : Body) (pt : Point) (a : ℕ) (ds : List Operand) (es : List Entry) → marks (loads c pt a ds es) ≡ []
 loads-none c pt a [] es = refl
 loads-none c pt a (d ∷ ds) es = loads-none c pt (suc a) ds _
 
@@ -122,14 +121,14 @@ behind-none c js (Direct m ds) = refl
 behind-none c js (Apply f a p) = refl
 behind-none c js (Branch a b d) = refl
 
-simple-none : (c : Body) (op : Op) (pt : Point) (js : Waiting) (es : List Entry) → marks (simple c op pt js es) ≡ []
+pub simple-none : (c : Body) (op : Op) (pt : Point) (js : Waiting) (es : List Entry) → marks (simple c op pt js es) ≡ []
 simple-none c op pt js es =
     no-marks (loads c pt (first_register op) (operands op) es) _ (loads-none c pt (first_register op) (operands op) es) ∙ behind-none c js op
 
-leaving-none : (c : Body) (op : Op) (pt : Point) (es : List Entry) → marks (leaving c op pt es) ≡ []
+pub leaving-none : (c : Body) (op : Op) (pt : Point) (es : List Entry) → marks (leaving c op pt es) ≡ []
 leaving-none c op pt es = no-marks (loads c pt (first_register op) (operands op) es) _ (loads-none c pt (first_register op) (operands op) es)
 
-given-none : (c : Body) (js : Waiting) → marks (given c js) ≡ []
+pub given-none : (c : Body) (js : Waiting) → marks (given c js) ≡ []
 given-none c ToCaller = refl
 given-none c (ToTop k) = refl
 given-none c (Then x b l js) = refl
@@ -158,14 +157,14 @@ writes-none c xs ls b js done [] [] = refl
 writes-none c xs ls b js done (y ∷ ys) [] = refl
 writes-none c xs ls b js done [] (m ∷ ms) = refl
 
-group-none : (c : Body) (xs ls : List ℕ) (b : Block) (js : Waiting) → marks (group c xs ls b js) ≡ []
+pub group-none : (c : Body) (xs ls : List ℕ) (b : Block) (js : Waiting) → marks (group c xs ls b js) ≡ []
 group-none c xs ls b js = no-marks (makes c xs ls b js [] xs ls) _ (makes-none c xs ls b js [] xs ls) ∙ writes-none c xs ls b js [] xs ls
 
-stores-captured-none : (c : Body) (n : ℕ) (pt : Point) (es : List Entry) (j : ℕ) (xs done : List ℕ) → marks (stores_captured c n pt es j xs done) ≡ []
+pub stores-captured-none : (c : Body) (n : ℕ) (pt : Point) (es : List Entry) (j : ℕ) (xs done : List ℕ) → marks (stores_captured c n pt es j xs done) ≡ []
 stores-captured-none c n pt es j [] done = refl
 stores-captured-none c n pt es j (x ∷ xs) done = stores-captured-none c n pt es (suc j) xs (x ∷ done)
 
-stores-operands-none : (c : Body) (pt : Point) (us : List ℕ) (a : ℕ) (ys done : List ℕ) → marks (stores_operands c pt us a ys done) ≡ []
+pub stores-operands-none : (c : Body) (pt : Point) (us : List ℕ) (a : ℕ) (ys done : List ℕ) → marks (stores_operands c pt us a ys done) ≡ []
 stores-operands-none c pt us a [] done = refl
 stores-operands-none c pt us a (y ∷ ys) done =
     by (is_in us y) _ _ _ (stores-operands-none c pt us (suc a) ys (y ∷ done)) (stores-operands-none c pt us (suc a) ys done)
@@ -233,7 +232,6 @@ module _ (p : AnfTree) (home : ℕ → ℕ) (size : ℕ) where
 
   mutual
     unfolding code_block code_bound code_last
-
     block-within : (b : Block) (js : Waiting) (l : ℕ) → Within l (l + labels_in b) (marks (code_block c b js l))
     block-within (Bind x op k) js l =
         subst (Within l (l + (labels_of op + labels_in k))) (sym (marks-append (code_bound c op x k js l) (code_block c k js (l + labels_of op))))
@@ -289,20 +287,25 @@ record Both (a b lo hi : ℕ) (ls : List ℕ) : Type 0 where
   once : IsApart ls
   either : (l : ℕ) → IsIn l ls → ((a ≤ l) × (l < b)) ⊎ ((lo ≤ l) × (l < hi))
 
--- what is before the code of a lambda's body
+-- the entry of a lambda, and where its frame is made
+pub entry-none : (p : AnfTree) (n : ℕ) (q : ProcTree) → marks (entry (body_of p q) n q) ≡ []
+entry-none p n q = by q.lifted
+  where
+    by : (b : Bool) → marks (cond b (Does (I.Proc n) (AtLifted n (operands_map (free_block (captured_in p) q.body) 1 q.params)) None ∷ [])
+        (Does (I.Proc n) (AtProc n) None ∷ Does (counting q.rest q.params) (AtArgs n) (Some q.place) ∷ [])) ≡ []
+    by true = refl
+    by false = refl
+
+pub frame-none : (p : AnfTree) (n : ℕ) (q : ProcTree) → marks (frame_made (body_of p q) n q.body q.params q.captured) ≡ []
+frame-none p n q =
+    no-marks (stores_captured (body_of p q) n _ _ 0 q.captured []) _ (stores-captured-none (body_of p q) n _ _ 0 q.captured [])
+    ∙ stores-operands-none (body_of p q) _ _ 1 q.params q.captured
+
 lambda-marks : (p : AnfTree) (n : ℕ) (q : ProcTree) (l : ℕ) →
     marks (code_lambda p n q l) ≡ n ∷ marks (code_block (body_of p q) q.body ToCaller l)
 lambda-marks p n q l =
     ap (λ ls. n ∷ ls)
-    (no-marks (entry (body_of p q) n q) _ (entry-none q.lifted)
-    ∙ no-marks (frame_made (body_of p q) n q.body q.params q.captured) _
-    (no-marks (stores_captured (body_of p q) n _ _ 0 q.captured []) _ (stores-captured-none (body_of p q) n _ _ 0 q.captured [])
-    ∙ stores-operands-none (body_of p q) _ _ 1 q.params q.captured))
-  where
-    entry-none : (b : Bool) → marks (cond b (Does (I.Proc n) (AtLifted n (operands_map (free_block (captured_in p) q.body) 1 q.params)) None ∷ [])
-        (Does (I.Proc n) (AtProc n) None ∷ Does (counting q.rest q.params) (AtArgs n) (Some q.place) ∷ [])) ≡ []
-    entry-none true = refl
-    entry-none false = refl
+    (no-marks (entry (body_of p q) n q) _ (entry-none p n q) ∙ no-marks (frame_made (body_of p q) n q.body q.params q.captured) _ (frame-none p n q))
 
 lambdas-both : (p : AnfTree) (n : ℕ) (qs : List ProcTree) (l : ℕ) → n + length qs ≤ l →
     Both n (n + length qs) l (l + labels_within qs) (marks (code_lambdas p n qs l))
@@ -315,26 +318,24 @@ lambdas-both p n (q ∷ qs) l le =
     subst (Both n (n + suc (length qs)) l (l + (labels_in q.body + labels_within qs)))
     (sym (marks-append (code_lambda p n q l) (code_lambdas p (suc n) qs (l + labels_in q.body)) ∙ ap (λ ls. ls ++ rest) (lambda-marks p n q l)))
     (record {
-      once = (
-        (λ i. ⊎_elim
-            (λ j. let x = here.low n j in omega (arith, x, le))
-            (λ j. ⊎_elim (λ k. let x = k.0 in omega (arith, x)) (λ k. let x = k.0 in omega (arith, x, le)) (more.either n j))
-            (in-cases bs rest n i)),
+      once = ((λ i. ⊎_elim
+          (λ j. let x = here.low n j in omega (arith, x, le))
+          (λ j. ⊎_elim (λ k. let x = k.0 in omega (arith, x)) (λ k. let x = k.0 in omega (arith, x, le)) (more.either n j))
+          (in-cases bs rest n i)),
         apart-join bs rest here.apart more.once (λ m i j. ⊎_elim
-            (λ k. let x = here.low m i in let y = k.1 in omega (arith, x, y, le))
-            (λ k. let x = here.high m i in let y = k.0 in omega (arith, x, y))
-            (more.either m j)),
-      );
+          (λ k. let x = here.low m i in let y = k.1 in omega (arith, x, y, le))
+          (λ k. let x = here.high m i in let y = k.0 in omega (arith, x, y))
+          (more.either m j)));
       either = λ m i. ⊎_elim
-          (λ e. inl (omega (arith, e), omega (arith, e)))
-          (λ j. ⊎_elim
+        (λ e. inl (omega (arith, e), omega (arith, e)))
+        (λ j. ⊎_elim
           (λ k. let x = here.low m k in let y = here.high m k in inr (omega (arith, x), omega (arith, y)))
           (λ k. ⊎_elim
-          (λ r. let x = r.0 in let y = r.1 in inl (omega (arith, x), omega (arith, y)))
-          (λ r. let x = r.0 in let y = r.1 in inr (omega (arith, x), omega (arith, y)))
-          (more.either m k))
+            (λ r. let x = r.0 in let y = r.1 in inl (omega (arith, x), omega (arith, y)))
+            (λ r. let x = r.0 in let y = r.1 in inr (omega (arith, x), omega (arith, y)))
+            (more.either m k))
           (in-cases bs rest m j))
-          i;
+        i;
     })
 
 -- the labels of a program are apart
@@ -347,6 +348,6 @@ labels-apart p =
     let g = lambdas-both p 0 (lambdas_of p) (n + labels_within (forms_of p)) (omega arith) in
     subst IsApart (sym (labels-marks (noted_items p) ∙ marks-append forms _))
     (apart-join (marks forms) (marks lambdas) f.apart g.once (λ l i j. ⊎_elim
-    (λ k. let x = f.low l i in let y = k.1 in omega (arith, x, y))
-    (λ k. let x = f.high l i in let y = k.0 in omega (arith, x, y))
-    (g.either l j)))
+      (λ k. let x = f.low l i in let y = k.1 in omega (arith, x, y))
+      (λ k. let x = f.high l i in let y = k.0 in omega (arith, x, y))
+      (g.either l j)))

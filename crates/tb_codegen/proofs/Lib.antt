@@ -21,6 +21,7 @@ pub mod Ranges
 pub mod Fields
 pub mod AllFields
 pub mod Bounded
+pub mod FineNotes
 pub mod Envs
 pub mod Holding
 pub mod Sim
@@ -48,3 +49,4 @@ pub mod Edges
 pub mod Bits
 pub mod Seen
 pub mod Space
+pub mod Keeping

@@ -5,10 +5,15 @@ use Rattle.tb_prim.specs.declared.event.Stop.{Stop}
 use Rattle.tb_semantics.specs.Graph.{IsIn}
 use Rattle.tb_semantics.specs.Runs.{run}
 use Rattle.tb_semantics.proofs.ListLemmas.{in-cases, in-left, in-right}
+use Rattle.std.proofs.lemmas.Bool.{cases_eq}
+use Rattle.tb_core.specs.FreeVariables.{without}
+use Rattle.tb_core.specs.Space.{value_locations, values_locations}
 use Rattle.tb_core.specs.Store.{Value, Unspecified}
+use Rattle.tb_ir.specs.Space.{frames_locations}
+use Rattle.tb_ir.specs.TreeMachine.{env_values}
 use Rattle.tb_ir.specs.AnfTree.{Operand, Quote, Var, Block, Op, Atom, Global, SetGlobal, DefGlobal, PrimUse, NewCell, CellGet, CellSet, Close, Call, Direct, Apply, Branch, AnfTree}
-use Rattle.tb_ir.specs.AnfMachine.{AnfConfig, AnfFrames, AnfState, Code, InBlock, InOp, atom_value, atom_values, both, free_of_atom, free_of_atoms, free_op, run_op}
-use Rattle.tb_ir.specs.Machine.{Control, Env, Empty, Eval, Item, Running, Lost, Stopped, Val, gather, lookup}
+use Rattle.tb_ir.specs.AnfMachine.{AnfConfig, AnfFrames, AnfState, Code, InBlock, InOp, atom_value, atom_values, both, free_of_atom, free_of_atoms, free_op, language, run_op}
+use Rattle.tb_ir.specs.Machine.{Control, Env, Empty, Eval, Item, Running, Lost, Stopped, Val, bind_found, gather, lookup}
 use Rattle.tb_mac.specs.declared.word.Word.{Word}
 use Rattle.tb_mac.specs.Frames.{Frame as MacFrame}
 use Rattle.tb_mac.specs.FramedRuns.{Stays, is_full_stop}
@@ -16,11 +21,11 @@ use Rattle.tb_codegen.specs.Notes.{Entry, Stands, Spot, Reg, Slot, Symbol, Const
 use Rattle.tb_codegen.specs.Generate.{captured_in}
 use Rattle.tb_codegen.specs.Operations.{operands}
 use Rattle.tb_codegen.proofs.Changes.{Args, no_args, an_arg, From, Into, IsFirst, OpAt, at_bind, at_tail, Under}
-use Rattle.tb_codegen.proofs.Envs.{lookup-gather}
+use Rattle.tb_codegen.proofs.Envs.{lookup-gather, lookup-other, lookup-same}
 use Rattle.tb_codegen.proofs.Holding.{first-put, fs-more, holds-from, holds-into, pushed, under}
 use Rattle.tb_codegen.proofs.Landing.{lands_value}
 use Rattle.tb_codegen.proofs.Ok.{HasNote, free}
-use Rattle.tb_codegen.proofs.Rel.{Closed, FsRel, Goes, Grows, HasAny, Holds, JRel, j_then, Means, m_name, Memory, OwnRel, PtRel, at_block, at_unspecified, IsCut, Rel, WRel, WsRel, ws_none, ws_more, World, config, meaning, r_inside, r_failed, r_lost, step_of}
+use Rattle.tb_codegen.proofs.Rel.{Closed, FsRel, Goes, Grows, HasAny, Holds, JRel, j_then, Means, m_name, Memory, Onto, OwnRel, PtRel, at_block, at_unspecified, IsCut, Rel, WRel, WsRel, ws_none, ws_more, World, config, meaning, r_inside, r_failed, r_lost, step_of}
 use Rattle.tb_codegen.proofs.Sim.{Mem, Sim, Still, machine, source, target}
 
 -- operands one by one: their registers and words, and their values
@@ -90,6 +95,49 @@ operand_free captured (Apply a b p) y i =
     (in-cases (free_of_atom a) (free_of_atom b ++ []) y i)
 operand_free captured (Branch a b d) y i = in-left (free_of_atom a) _ y (in_end (free_of_atom a) y i)
 
+-- the locations of a variable that is found
+pub found_location : (r : Env) (x : ℕ) (v : Value) (l : ℕ) → lookup r x ≡ Some v → IsIn l (value_locations v) → IsIn l (values_locations (env_values r))
+found_location Empty x v l e i = cc
+found_location (Env.Bind y u r) x v l e i =
+    ⊎_elim
+    (λ (q : y ≡ x).
+    let s : u ≡ v = cc (lookup-same y u r, e, q) in
+    in-left (value_locations u) _ l (subst (λ v. IsIn l (value_locations v)) (sym s) i))
+    (λ ne. in-right (value_locations u) _ l (found_location r x v l (sym (lookup-other y x u r ne) ∙ e) i))
+    (cases_eq y x)
+
+-- a value of an environment that is cut is that of one of its variables
+record OfVariable (xs : List ℕ) (r : Env) (l : ℕ) : Type 0 where
+  variable : ℕ
+  value : Value
+  among : IsIn variable xs
+  found : lookup r variable ≡ Some value
+  location : IsIn l (value_locations value)
+
+of_found : (x : ℕ) (xs : List ℕ) (whole : Env) (l : ℕ) (o : Option Value) → lookup whole x ≡ o → (IsIn l (values_locations (env_values (gather xs whole))) → OfVariable xs (gather xs whole) l) →
+    IsIn l (values_locations (env_values (bind_found x o (gather xs whole)))) → OfVariable (x ∷ xs) (bind_found x o (gather xs whole)) l
+of_found x xs whole l None e rec i = let t = rec i in record { variable = t.variable; value = t.value; among = inr t.among; found = t.found; location = t.location }
+of_found x xs whole l (Some u) e rec i =
+    ⊎_elim
+    (λ i. record { variable = x; value = u; among = inl refl; found = lookup-same x u (gather xs whole); location = i })
+    (λ i.
+    let t = rec i in
+    ⊎_elim
+    (λ (q : x ≡ t.variable).
+    let f : lookup whole t.variable ≡ Some t.value = sym (lookup-gather xs whole t.variable t.among) ∙ t.found in
+    let s : u ≡ t.value = cc (e, f, q) in
+    record { variable = x; value = u; among = inl refl; found = lookup-same x u (gather xs whole); location = subst (λ v. IsIn l (value_locations v)) (sym s) t.location })
+    (λ ne. record { variable = t.variable; value = t.value; among = inr t.among; found = lookup-other x t.variable u (gather xs whole) ne ∙ t.found; location = t.location })
+    (cases_eq x t.variable))
+    (in-cases (value_locations u) (values_locations (env_values (gather xs whole))) l i)
+
+of_cut : (xs : List ℕ) (whole : Env) (l : ℕ) → IsIn l (values_locations (env_values (gather xs whole))) → OfVariable xs (gather xs whole) l
+of_cut [] whole l i = absurd i
+of_cut (x ∷ xs) whole l i = of_found x xs whole l (lookup whole x) refl (of_cut xs whole l) i
+
+value_of_cut : (xs : List ℕ) (whole : Env) (l : ℕ) → IsIn l (values_locations (env_values (gather xs whole))) → (x : ℕ) × (v : Value) × IsIn x xs × (lookup (gather xs whole) x ≡ Some v) × IsIn l (value_locations v)
+value_of_cut xs whole l i = let t = of_cut xs whole l i in (t.variable, t.value, t.among, t.found, t.location)
+
 module _ (p : AnfTree) (notes : List Note) (limit : ℕ) where
   -- the source at an operation, with its own environment
   abbrev pub at_op : Still → Op → Env → AnfFrames → AnfState
@@ -102,6 +150,31 @@ module _ (p : AnfTree) (notes : List Note) (limit : ℕ) where
       JRel gs (pushed p [] [] o r rs) hs fs
   op_starts {op = op} r (at_bind x k l) j = (_, λ y. refl, j_then x k l _ j)
   op_starts r at_tail j = (_, λ y. refl, j)
+
+  -- the operation holds what the block holds
+  op_onto : {op : Op} {b : Block} {js gs : Waiting} {o : Option (List ℕ)} {rs : List Env} {fr fs : AnfFrames} (r : Env) (at : OpAt (captured_in p) op b js gs o) (j : JRel js rs fr fs) → IsCut p notes (free p b) r → (y : Still) →
+      Onto p notes (config p notes (Eval (InBlock b) r) fr y.globals y.st y.cin y.met) (config p notes (Eval (InOp op) (gather (free_op (captured_in p) op) r)) (op_starts r at j).0 y.globals y.st y.cin y.met)
+  unfolding op_starts
+  op_onto {op = op} {fr = fr} r (at_bind x k l) j cut y = record { store = refl; globals = refl; marked = omega arith; roots = λ n i. ⊎_elim
+      (λ i.
+      let F = free_op (captured_in p) op in
+      let ys = without (x ∷ []) (free p k) in
+      let v = value_of_cut (F ++ ys) cut.whole n (subst (λ r. IsIn n (values_locations (env_values r))) cut.cut i) in
+      let e : lookup r v.0 ≡ Some v.1 = subst (λ r. lookup r v.0 ≡ Some v.1) (sym cut.cut) v.3 in
+      ⊎_elim
+      (λ z. in-left (values_locations (env_values (gather F r))) _ n (found_location (gather F r) v.0 v.1 n (lookup-gather F r v.0 z ∙ e) v.4))
+      (λ z. in-right (values_locations (env_values (gather F r))) _ n (in-left (values_locations (env_values (gather ys r))) _ n (found_location (gather ys r) v.0 v.1 n (lookup-gather ys r v.0 z ∙ e) v.4)))
+      (in-cases F ys v.0 v.2))
+      (λ i. in-right (values_locations (env_values (gather (free_op (captured_in p) op) r))) _ n (in-right (values_locations (env_values (gather (without (x ∷ []) (free p k)) r))) _ n i))
+      (in-cases (values_locations (env_values r)) (frames_locations (language p).values fr) n i) }
+  op_onto {op = op} {fr = fr} r at_tail j cut y = record { store = refl; globals = refl; marked = refl; roots = λ n i. ⊎_elim
+      (λ i.
+      let F = free_op (captured_in p) op in
+      let v = value_of_cut F cut.whole n (subst (λ r. IsIn n (values_locations (env_values r))) cut.cut i) in
+      let e : lookup r v.0 ≡ Some v.1 = subst (λ r. lookup r v.0 ≡ Some v.1) (sym cut.cut) v.3 in
+      in-left (values_locations (env_values (gather F r))) _ n (found_location (gather F r) v.0 v.1 n (lookup-gather F r v.0 v.2 ∙ e) v.4))
+      (λ i. in-right (values_locations (env_values (gather (free_op (captured_in p) op) r))) _ n i)
+      (in-cases (values_locations (env_values r)) (frames_locations (language p).values fr) n i) }
 
   -- an operation gives a value, which comes to a register
   pub lands_op : (x y : Still) {w : World} (z : World) {op : Op} {b : Block} {js gs : Waiting} {o : Option (List ℕ)} {own : Own} {d : ℕ}
@@ -131,7 +204,7 @@ module _ (p : AnfTree) (notes : List Note) (limit : ℕ) where
   fails_op x {w = w} {b = b} r stop now k at n cut j h o f len steps mem =
       let t = op_starts r at j in
       let e = ap (step_of p notes) (t.1 x) ∙ steps t.0 in
-      (2, (w, rw e (r_failed (r_inside x.es n (at_block b r cut j) h o f mem len) (t.1 x))), inl (omega arith))
+      (2, (w, rw e (r_failed (r_inside x.es n (at_block b r cut j) h o f mem len) (op_onto r at j cut x))), inl (omega arith))
 
   -- an operation writes, and its value is the unspecified one
   pub lands_written : (x y : Still) {w : World} {op : Op} {b : Block} {js gs : Waiting} {o : Option (List ℕ)} {own : Own}
@@ -146,9 +219,9 @@ module _ (p : AnfTree) (notes : List Note) (limit : ℕ) where
       let t = op_starts r at j in
       let e = ap (step_of p notes) (t.1 x) ∙ steps t.0 in
       let hh = holds-from p x.st y.st w w (λ k i. i) (r ∷ rs) (Env.Bind 0 Unspecified Empty ∷ pushed p [] [] o r rs) x.regs slots _ new old h from
-      (under p x.st y.st o [] [] r (Env.Bind 0 Unspecified Empty) rs (λ y i. absurd i)) in
+          (under p x.st y.st o [] [] r (Env.Bind 0 Unspecified Empty) rs (λ y i. absurd i)) in
       let rel : Rel p notes w (target p notes limit (record y { pc = x.pc + 1; regs = x.regs }) top) (source p notes limit y (Val Unspecified) t.0) =
-      r_inside y.es n (at_unspecified t.2) hh o2 f mem len in
+          r_inside y.es n (at_unspecified t.2) hh o2 f mem len in
       (2, (w, subst (Rel p notes w (target p notes limit (record y { pc = x.pc + 1; regs = x.regs }) top)) (sym e) rel), inl (omega arith))
 
   -- neither the source nor the machine has a next step
@@ -162,4 +235,4 @@ module _ (p : AnfTree) (notes : List Note) (limit : ℕ) where
   lost_op x {w = w} {b = b} r stop k ns at n cut j h o f len steps mem =
       let t = op_starts r at j in
       let e = ap (step_of p notes) (t.1 x) ∙ steps t.0 in
-      (2, (w, rw e (r_lost ns (r_inside x.es n (at_block b r cut j) h o f mem len) (t.1 x))), inl (omega arith))
+      (2, (w, rw e (r_lost ns (r_inside x.es n (at_block b r cut j) h o f mem len) (op_onto r at j cut x))), inl (omega arith))

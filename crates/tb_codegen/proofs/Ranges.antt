@@ -89,6 +89,11 @@ small-map (AtProc m) h = record { registers = lit< tt; slots = tt }
 small-map (AtArgs m) h = record { registers = lit< tt; slots = tt }
 small-map (AtLifted m es) h = record { registers = bits-small es; slots = tt }
 
+-- register 0 is stored nowhere
+abbrev pub SparesFirst : Instr → Type 0
+SparesFirst (I.Store a s) = 1 ≤ a
+SparesFirst i = Unit {0}
+
 module _ (p : AnfTree) (w : ℕ) (narrow : w ≤ 1000) where
   -- an instruction with its map and place
   pub record Good (i : Instr) (n : Note) (q : Option Place) : Type 0 where
@@ -96,6 +101,7 @@ module _ (p : AnfTree) (w : ℕ) (narrow : w ≤ 1000) where
     pub map_ok : SmallNote n
     pub place_ok : is_some q ≡ instr_can_fail i
     pub small : extent i ≤ w
+    pub spares_first : SparesFirst i
 
   abbrev pub AllGood : List Noted → Type 0
   AllGood [] = Unit {0}
@@ -134,7 +140,7 @@ module _ (p : AnfTree) (w : ℕ) (narrow : w ≤ 1000) where
     slot-small x h = let f = few_slots in omega (arith, h, f)
 
     special-good : (a x : ℕ) (n : Note) → a ≤ 16 → IsSome (imm_word x) → SmallNote n → Good (I.Imm a x) n None
-    special-good a x n lt e m = record { field_ok = (lt, e); map_ok = m; place_ok = refl; small = omega arith }
+    special-good a x n lt e m = record { field_ok = (lt, e); map_ok = m; place_ok = refl; small = omega arith; spares_first = tt }
 
     constant-good : (a : ℕ) (k : Const) (n : Note) → a ≤ 16 → IsWritten p.statics k → SmallNote n → Good (constant p.statics a k) n None
     constant-good a (Const.Fix v) n lt h m = special-good a _ n lt (ap is_some (imm_word-imm_bits (const_word [] [] (Const.Fix v)) h)) m
@@ -153,20 +159,21 @@ module _ (p : AnfTree) (w : ℕ) (narrow : w ≤ 1000) where
           map_ok = m;
           place_ok = refl;
           small = omega arith;
+          spares_first = tt;
         }
         by None e = absurd (static-there p.statics k h e)
 
     load-good : (a : ℕ) (d : Operand) (n : Note) → a ≤ 16 → AtomGood d → SmallNote n → Good (load c a d) n None
     load-good a (Quote k) n lt h m = constant-good a k n lt h m
-    load-good a (Var x) n lt h m = record { field_ok = (lt, slot-small x h); map_ok = m; place_ok = refl; small = omega arith }
+    load-good a (Var x) n lt h m = record { field_ok = (lt, slot-small x h); map_ok = m; place_ok = refl; small = omega arith; spares_first = tt }
 
     loads-good : (pt : Point) (a : ℕ) (ds : List Operand) (es : List Entry) → AtomsGood ds → a + length ds ≤ 17 → AllGood (loads c pt a ds es)
     loads-good pt a [] es h le = tt
     loads-good pt a (d ∷ ds) es h le =
         (load-good a d _ (omega (arith, le)) h.0 few_slots, loads-good pt (suc a) ds _ h.1 (omega (arith, le)))
 
-    pub store-good : (a x : ℕ) (n : Note) → a ≤ 16 → home x < size → SmallNote n → Good (I.Store a (home x)) n None
-    store-good a x n lt h m = record { field_ok = (lt, slot-small x h); map_ok = m; place_ok = refl; small = omega arith }
+    pub store-good : (a x : ℕ) (n : Note) → 1 ≤ a → a ≤ 16 → home x < size → SmallNote n → Good (I.Store a (home x)) n None
+    store-good a x n some lt h m = record { field_ok = (lt, slot-small x h); map_ok = m; place_ok = refl; small = omega arith; spares_first = some }
 
     -- a lambda that a procedure is made of
     pub record LambdaGood (m : ℕ) : Type 0 where
@@ -174,7 +181,7 @@ module _ (p : AnfTree) (w : ℕ) (narrow : w ≤ 1000) where
       pub slots : (x : ℕ) → IsIn x (captured_in p m) → home x < size
 
     clo-good : (m : ℕ) (n : Note) → LambdaGood m → SmallNote n → Good (I.Clo 16 (length (captured_in p m)) m) n None
-    clo-good m n h k = let f = h.few in record { field_ok = (lit≤ tt, omega (arith, f, narrow), lit< tt); map_ok = k; place_ok = refl; small = f }
+    clo-good m n h k = let f = h.few in record { field_ok = (lit≤ tt, omega (arith, f, narrow), lit< tt); map_ok = k; place_ok = refl; small = f; spares_first = tt }
 
     abbrev pub OpGood : Op → Type 0
     OpGood (Atom a) = AtomGood a
@@ -193,28 +200,28 @@ module _ (p : AnfTree) (w : ℕ) (narrow : w ≤ 1000) where
 
     use-good : (r : Primitive) (ds : List Operand) (q : Place) (n : Note) → length ds ≡ arity_of r → length ds ≤ 3 → SmallNote n →
         Good (use_of r ds) n (cond (can_fail r) (Some q) None)
-    use-good r [] q n e le m = record { field_ok = (lit≤ tt, arity-found r [] e); map_ok = m; place_ok = place-use r q; small = omega arith }
-    use-good r (a ∷ []) q n e le m = record { field_ok = (lit≤ tt, lit≤ tt, arity-found r (a ∷ []) e); map_ok = m; place_ok = place-use r q; small = omega arith }
+    use-good r [] q n e le m = record { field_ok = (lit≤ tt, arity-found r [] e); map_ok = m; place_ok = place-use r q; small = omega arith; spares_first = tt }
+    use-good r (a ∷ []) q n e le m = record { field_ok = (lit≤ tt, lit≤ tt, arity-found r (a ∷ []) e); map_ok = m; place_ok = place-use r q; small = omega arith; spares_first = tt }
     use-good r (a ∷ b ∷ []) q n e le m =
-        record { field_ok = (lit≤ tt, lit≤ tt, lit≤ tt, arity-found r (a ∷ b ∷ []) e); map_ok = m; place_ok = place-use r q; small = omega arith }
+        record { field_ok = (lit≤ tt, lit≤ tt, lit≤ tt, arity-found r (a ∷ b ∷ []) e); map_ok = m; place_ok = place-use r q; small = omega arith; spares_first = tt }
     use-good r (a ∷ b ∷ d ∷ []) q n e le m =
-        record { field_ok = (lit≤ tt, lit≤ tt, lit≤ tt, arity-found r (a ∷ b ∷ d ∷ []) e); map_ok = m; place_ok = place-use r q; small = omega arith }
+        record { field_ok = (lit≤ tt, lit≤ tt, lit≤ tt, arity-found r (a ∷ b ∷ d ∷ []) e); map_ok = m; place_ok = place-use r q; small = omega arith; spares_first = tt }
     use-good r (a ∷ b ∷ d ∷ f ∷ ds) q n e le m = absurd (omega (arith, le))
 
     -- the instruction of an operation; a label has any number
     act-good : (op : Op) (l : ℕ) (n : Note) → OpGood op → SmallNote n → Good (act c l op) n (place op)
     act-good (Atom a) l n h m = load-good 16 a n (lit≤ tt) h m
-    act-good (Global g q) l n h m = record { field_ok = (lit≤ tt, h); map_ok = m; place_ok = refl; small = omega arith }
-    act-good (SetGlobal g a q) l n h m = record { field_ok = (lit≤ tt, h.0); map_ok = m; place_ok = refl; small = omega arith }
-    act-good (DefGlobal g a) l n h m = record { field_ok = (lit≤ tt, h.0); map_ok = m; place_ok = refl; small = omega arith }
+    act-good (Global g q) l n h m = record { field_ok = (lit≤ tt, h); map_ok = m; place_ok = refl; small = omega arith; spares_first = tt }
+    act-good (SetGlobal g a q) l n h m = record { field_ok = (lit≤ tt, h.0); map_ok = m; place_ok = refl; small = omega arith; spares_first = tt }
+    act-good (DefGlobal g a) l n h m = record { field_ok = (lit≤ tt, h.0); map_ok = m; place_ok = refl; small = omega arith; spares_first = tt }
     act-good (PrimUse r ds q) l n h m = use-good r ds q n h.0 h.1 m
-    act-good (NewCell a) l n h m = record { field_ok = (lit≤ tt, lit≤ tt); map_ok = m; place_ok = refl; small = omega arith }
-    act-good (CellGet a q) l n h m = record { field_ok = (lit≤ tt, lit≤ tt); map_ok = m; place_ok = refl; small = omega arith }
-    act-good (CellSet a b) l n h m = record { field_ok = (lit≤ tt, lit≤ tt); map_ok = m; place_ok = refl; small = omega arith }
+    act-good (NewCell a) l n h m = record { field_ok = (lit≤ tt, lit≤ tt); map_ok = m; place_ok = refl; small = omega arith; spares_first = tt }
+    act-good (CellGet a q) l n h m = record { field_ok = (lit≤ tt, lit≤ tt); map_ok = m; place_ok = refl; small = omega arith; spares_first = tt }
+    act-good (CellSet a b) l n h m = record { field_ok = (lit≤ tt, lit≤ tt); map_ok = m; place_ok = refl; small = omega arith; spares_first = tt }
     act-good (Close k) l n h m = clo-good k n h m
-    act-good (Call f ds q) l n h m = record { field_ok = h.0; map_ok = m; place_ok = refl; small = omega arith }
-    act-good (Direct k ds) l n h m = record { field_ok = lit< tt; map_ok = m; place_ok = refl; small = omega arith }
-    act-good (Apply f a q) l n h m = record { field_ok = tt; map_ok = m; place_ok = refl; small = omega arith }
+    act-good (Call f ds q) l n h m = record { field_ok = h.0; map_ok = m; place_ok = refl; small = omega arith; spares_first = tt }
+    act-good (Direct k ds) l n h m = record { field_ok = lit< tt; map_ok = m; place_ok = refl; small = omega arith; spares_first = tt }
+    act-good (Apply f a q) l n h m = record { field_ok = tt; map_ok = m; place_ok = refl; small = omega arith; spares_first = tt }
     act-good (Branch a b d) l n h m = absurd h
 
     operands-good : (op : Op) → OpGood op → AtomsGood (operands op) × (first_register op + length (operands op) ≤ 17)
@@ -238,13 +245,10 @@ module _ (p : AnfTree) (w : ℕ) (narrow : w ≤ 1000) where
     -- captured words are written
     fills-good : (m : ℕ) (js : Waiting) (j : ℕ) (xs : List ℕ) → ((x : ℕ) → IsIn x xs → home x < size) → j + length xs ≤ 1000 → AllGood (fills c m js j xs)
     fills-good m js j [] h le = tt
-    fills-good m js j (x ∷ xs) h le = (
-      load-good 1 (Var x) _ (lit≤ tt) (h x (inl refl)) few_slots,
-      (
-        record { field_ok = (lit≤ tt, lit≤ tt, omega (arith, le)); map_ok = few_slots; place_ok = refl; small = omega arith },
-        fills-good m js (suc j) xs (λ y i. h y (inr i)) (omega (arith, le)),
-      ),
-    )
+    fills-good m js j (x ∷ xs) h le =
+        (load-good 1 (Var x) _ (lit≤ tt) (h x (inl refl)) few_slots,
+        (record { field_ok = (lit≤ tt, lit≤ tt, omega (arith, le)); map_ok = few_slots; place_ok = refl; small = omega arith; spares_first = tt },
+        fills-good m js (suc j) xs (λ y i. h y (inr i)) (omega (arith, le))))
 
     unspecified-good : (js : Waiting) → AllGood (unspecified_result c js)
     unspecified-good js = (special-good 16 (imm_bits unspecified) _ (lit≤ tt) refl few_slots, tt)
@@ -272,10 +276,10 @@ module _ (p : AnfTree) (w : ℕ) (narrow : w ≤ 1000) where
     returning-good : (op : Op) (pt : Point) (js : Waiting) (l : ℕ) (es : List Entry) → OpGood op → AllGood (returning c op pt js l es)
     returning-good op pt js l es h =
         good-append (loads c pt (first_register op) (operands op) es) _ (op-loads op pt es h)
-        (record { field_ok = lit< tt; map_ok = few_slots; place_ok = refl; small = omega arith }, (act-good op l _ h few_slots, tt))
+        (record { field_ok = lit< tt; map_ok = few_slots; place_ok = refl; small = omega arith; spares_first = tt }, (act-good op l _ h few_slots, tt))
 
     pop-good : (n : Note) → SmallNote n → Good (I.Pop size) n None
-    pop-good n m = record { field_ok = tt; map_ok = m; place_ok = refl; small = omega arith }
+    pop-good n m = record { field_ok = tt; map_ok = m; place_ok = refl; small = omega arith; spares_first = tt }
 
     leaving-good : (op : Op) (pt : Point) (es : List Entry) → OpGood op → AllGood (leaving c op pt es)
     leaving-good op pt es h =
@@ -296,14 +300,14 @@ module _ (p : AnfTree) (w : ℕ) (narrow : w ≤ 1000) where
     WaitGood (Then x b l js) = home x < size
 
     keep-good : (x : ℕ) (js : Waiting) → home x < size → AllGood (keep c x js)
-    keep-good x js h = (store-good 16 x _ (lit≤ tt) h few_slots, tt)
+    keep-good x js h = (store-good 16 x _ (lit≤ tt) (lit≤ tt) h few_slots, tt)
 
     jump-good : (l : ℕ) (n : Note) → SmallNote n → Good (I.Jump l) n None
-    jump-good l n m = record { field_ok = lit< tt; map_ok = m; place_ok = refl; small = omega arith }
+    jump-good l n m = record { field_ok = lit< tt; map_ok = m; place_ok = refl; small = omega arith; spares_first = tt }
 
     given-good : (js : Waiting) → WaitGood js → AllGood (given c js)
     given-good ToCaller h =
-        (pop-good _ few_slots, (record { field_ok = tt; map_ok = tt; place_ok = refl; small = omega arith }, tt))
+        (pop-good _ few_slots, (record { field_ok = tt; map_ok = tt; place_ok = refl; small = omega arith; spares_first = tt }, tt))
     given-good (ToTop k) h = (pop-good _ few_slots, tt)
     given-good (Then x b l js) h =
         good-append (keep c x (Then x b l js)) (Does (I.Jump l) (block_note c b js) None ∷ []) (keep-good x (Then x b l js) h) (jump-good l _ few_slots, tt)
@@ -328,10 +332,9 @@ module _ (p : AnfTree) (w : ℕ) (narrow : w ≤ 1000) where
 
     makes-good : (xs ls : List ℕ) (b : Block) (js : Waiting) (done ys ms : List ℕ) → ((y : ℕ) → IsIn y ys → home y < size) → LambdasGood ms →
         AllGood (makes c xs ls b js done ys ms)
-    makes-good xs ls b js done (y ∷ ys) (m ∷ ms) h g = (
-      clo-good m _ g.0 (making-small done),
-      (store-good 16 y _ (lit≤ tt) (h y (inl refl)) few_slots, makes-good xs ls b js (done ++ y ∷ []) ys ms (λ z i. h z (inr i)) g.1),
-    )
+    makes-good xs ls b js done (y ∷ ys) (m ∷ ms) h g =
+        (clo-good m _ g.0 (making-small done),
+        (store-good 16 y _ (lit≤ tt) (lit≤ tt) (h y (inl refl)) few_slots, makes-good xs ls b js (done ++ y ∷ []) ys ms (λ z i. h z (inr i)) g.1))
       where
         making-small : (zs : List ℕ) → SmallNote (making_note c xs ls b js zs)
         making-small [] = few_slots
@@ -343,13 +346,10 @@ module _ (p : AnfTree) (w : ℕ) (narrow : w ≤ 1000) where
     words-good : (y : ℕ) (pt : ℕ → Point) (es : List Entry) (j : ℕ) (xs : List ℕ) → ((x : ℕ) → IsIn x xs → home x < size) → j + length xs ≤ 1000 →
         AllGood (words c y pt es j xs)
     words-good y pt es j [] h le = tt
-    words-good y pt es j (x ∷ xs) h le = (
-      load-good 1 (Var x) _ (lit≤ tt) (h x (inl refl)) few_slots,
-      (
-        record { field_ok = (lit≤ tt, lit≤ tt, omega (arith, le)); map_ok = few_slots; place_ok = refl; small = omega arith },
-        words-good y pt es (suc j) xs (λ z i. h z (inr i)) (omega (arith, le)),
-      ),
-    )
+    words-good y pt es j (x ∷ xs) h le =
+        (load-good 1 (Var x) _ (lit≤ tt) (h x (inl refl)) few_slots,
+        (record { field_ok = (lit≤ tt, lit≤ tt, omega (arith, le)); map_ok = few_slots; place_ok = refl; small = omega arith; spares_first = tt },
+        words-good y pt es (suc j) xs (λ z i. h z (inr i)) (omega (arith, le))))
 
     all-words-good : (y : ℕ) (pt : ℕ → Point) (es : List Entry) (xs : List ℕ) → home y < size → ((x : ℕ) → IsIn x xs → home x < size) → length xs ≤ 1000 →
         AllGood (all_words c y pt es xs)
@@ -405,7 +405,7 @@ module _ (p : AnfTree) (w : ℕ) (narrow : w ≤ 1000) where
     test-good : (a : Operand) (pt : Point) (l : ℕ) (es : List Entry) (is : List Noted) → AtomGood a → AllGood is →
         AllGood (loads c pt 1 (a ∷ []) es ++ (Does (I.Brf 1 (suc l)) (here c pt (loaded 1 (a ∷ []) es)) None ∷ is))
     test-good a pt l es is h g =
-        (load-good 1 a _ (lit≤ tt) h few_slots, (record { field_ok = (lit≤ tt, lit< tt); map_ok = few_slots; place_ok = refl; small = omega arith }, g))
+        (load-good 1 a _ (lit≤ tt) h few_slots, (record { field_ok = (lit≤ tt, lit< tt); map_ok = few_slots; place_ok = refl; small = omega arith; spares_first = tt }, g))
 
     passing-good : (js : Waiting) (l : ℕ) → AllGood (passing js l)
     passing-good ToCaller l = tt
@@ -419,7 +419,6 @@ module _ (p : AnfTree) (w : ℕ) (narrow : w ≤ 1000) where
 
     mutual
       unfolding code_block code_bound code_last
-
       pub block-good : (b : Block) (js : Waiting) (l : ℕ) → BlockGood b → WaitGood js → AllGood (code_block c b js l)
       block-good (Bind x op k) js l h g =
           good-append (code_bound c op x k js l) _ (arms-good op x k js l h.0 h.1) (block-good k js (l + labels_of op) h.2 g)

@@ -14,7 +14,7 @@ use Rattle.tb_core.specs.FreeVariables.{without}
 use Rattle.tb_ir.specs.AnfTree.{Block, Bind, Tail, CloseAll, Op, ProcTree, AnfTree}
 use Rattle.tb_ir.specs.AnfMachine.{AnfConfig, AnfFrames, AnfState, AnfWork, Binding, Code, InBlock, InOp, evaluate, free_code, free_op, language, proc_of}
 use Rattle.tb_ir.specs.Machine.{Callee, Closure, Lifted, Config, Control, Entering, Env, Empty, Eval, Bound, Frame, Item, Cell, Obj, Clo, Own as OwnWork, Running, Lost, State, Stopped, Top, Val, bind_all, emit, events_of, gather, go, lookup, mark_top, step}
-use Rattle.tb_ir.specs.Space.{made, store_graph}
+use Rattle.tb_ir.specs.Space.{control_locations, frames_locations, made, marks, store_graph}
 use Rattle.tb_mac.specs.declared.word.Word.{Word}
 use Rattle.tb_mac.specs.declared.word.Word.TheVariants as W
 use Rattle.tb_mac.specs.Assembled.{Assembled}
@@ -338,6 +338,14 @@ module _ (p : AnfTree) (notes : List Note) where
     pub enters : step_of (Running c es) ≡ Running (record c { control = Entering callee vs; frames = mark_top c.frames }) (emit es (Event.Enter m))
     pub reached : (l : ℕ) → IsIn l ls → Reaches (store_graph (language p).values (length p.statics) c) l
 
+  -- a configuration holds what another does
+  pub record Onto (c d : AnfConfig) : Type 0 where
+    pub store : d.store ≡ c.store
+    pub globals : d.globals ≡ c.globals
+    pub marked : marks d.frames ≡ marks c.frames
+    pub roots : (l : ℕ) → IsIn l (control_locations c.control ++ frames_locations (language p).values c.frames) →
+        IsIn l (control_locations d.control ++ frames_locations (language p).values d.frames)
+
   pub data Rel (w : World) : FramedState → AnfState → Type 0 where
     r_inside : {pc : ℕ} {regs heap gap slots : List Word} {top ms : List MacFrame} {ahead : Option Taken} {input cin : List ℕ}
         {control : Control Code} {gs fs : AnfFrames} {globals : List Value} {st : List Item} {met : Bool} {pt : Point} {own : Own}
@@ -372,10 +380,10 @@ module _ (p : AnfTree) (notes : List Note) where
         Rel w (Stays m stop input now) (Stopped c now)
     -- a failing operation, one step behind its block
     r_failed : {m : Framed} {stop : Stop} {input : List ℕ} {c d : AnfConfig} {es now : List Event} → Rel w (Runs m input es) (Running c es) →
-        step_of (Running c es) ≡ Running d es → Rel w (Stays m stop input now) (Stopped d now)
+        Onto c d → Rel w (Stays m stop input now) (Stopped d now)
     -- neither has a next step
     r_lost : {m : Framed} {stop : Stop} {input : List ℕ} {c d : AnfConfig} {es : List Event} → is_full_stop stop ≡ false → Rel w (Runs m input es) (Running c es) →
-        step_of (Running c es) ≡ Running d es → Rel w (Stays m stop input es) (Lost d es)
+        Onto c d → Rel w (Stays m stop input es) (Lost d es)
 
   abbrev pub Goes : FramedState → AnfState → Type 0
   Goes t s = (w : World) × Rel w t s

@@ -23,7 +23,7 @@ use Rattle.tb_mac.specs.Layout.{addresses, addresses_from, globals_size, static_
 use Rattle.tb_mac.specs.LiveWords.{all_targets, live_slots, map_at, slots_at, slots_of, targets, waiting_slots}
 use Rattle.tb_codegen.specs.Notes.{Entry, Stands, Spot, Reg, Slot, Symbol, Constant, Variable, Itself, Capture, Note, Inside, Here, AtValue, Waiting, any, is_slot, note_map, slot_bits}
 use Rattle.tb_codegen.proofs.Bits.{Chosen, Entered', from_slots, slot_entry}
-use Rattle.tb_codegen.proofs.Calls.{found_location}
+use Rattle.tb_codegen.proofs.Operands.{found_location}
 use Rattle.tb_codegen.proofs.Edges.{Match, word_target}
 use Rattle.tb_codegen.proofs.Memories.{p_get}
 use Rattle.tb_codegen.proofs.Ok.{Follows, HasNote, IsWritten}
