@@ -69,17 +69,21 @@ module _ (p : AnfTree) (rules : KeepsRules p) (fits : Fits p) (narrow : width_of
     small = let f = frame-narrow in omega (arith, f, narrow)
 
     form-good : (k l : ℕ) → AllGood p w narrow (code_form p k q l)
-    form-good k l =
-        (record { field_ok = small; map_ok = tt; place_ok = refl; small = frame-narrow; spares_first = tt },
-        block-good p w narrow (slot_of q) (frame_size q) frame-narrow q.body (ToTop (suc k)) l body-good tt)
+    form-good k l = (
+      record { field_ok = small; map_ok = tt; place_ok = refl; small = frame-narrow; spares_first = tt },
+      block-good p w narrow (slot_of q) (frame_size q) frame-narrow q.body (ToTop (suc k)) l body-good tt,
+    )
 
     captured-good : (n : ℕ) (pt : Point) (es : List Entry) (j : ℕ) (xs done : List ℕ) → ((x : ℕ) → IsIn x xs → slot_of q x < frame_size q) →
         j + length xs ≤ 1000 → AllGood p w narrow (stores_captured (body_of p q) n pt es j xs done)
     captured-good n pt es j [] done h le = tt
-    captured-good n pt es j (x ∷ xs) done h le =
-        (record { field_ok = (lit≤ tt, lit≤ tt, omega (arith, le)); map_ok = small; place_ok = refl; small = omega arith; spares_first = tt },
-        (store-good p w narrow (slot_of q) (frame_size q) frame-narrow 16 x _ (lit≤ tt) (lit≤ tt) (h x (inl refl)) small,
-        captured-good n pt es (suc j) xs (x ∷ done) (λ y i. h y (inr i)) (omega (arith, le))))
+    captured-good n pt es j (x ∷ xs) done h le = (
+      record { field_ok = (lit≤ tt, lit≤ tt, omega (arith, le)); map_ok = small; place_ok = refl; small = omega arith; spares_first = tt },
+      (
+        store-good p w narrow (slot_of q) (frame_size q) frame-narrow 16 x _ (lit≤ tt) (lit≤ tt) (h x (inl refl)) small,
+        captured-good n pt es (suc j) xs (x ∷ done) (λ y i. h y (inr i)) (omega (arith, le)),
+      ),
+    )
 
     operands-good : (pt : Point) (us : List ℕ) (a : ℕ) (ys done : List ℕ) → ((y : ℕ) → IsIn y ys → slot_of q y < frame_size q) → 1 ≤ a → a + length ys ≤ 13 →
         AllGood p w narrow (stores_operands (body_of p q) pt us a ys done)
@@ -96,13 +100,14 @@ module _ (p : AnfTree) (rules : KeepsRules p) (fits : Fits p) (narrow : width_of
     frame-good : (n : ℕ) → AllGood p w narrow (frame_made (body_of p q) n q.body q.params q.captured)
     frame-good n =
         let few = (entering p rules fits q at).few in
-        let width = below-largest p.procs q at in
-        (record { field_ok = small; map_ok = tt; place_ok = refl; small = frame-narrow; spares_first = tt },
-        good-append p w narrow
-        (stores_captured (body_of p q) n (block_point q.body ToCaller) (operands_map (free p q.body) 1 q.params) 0 q.captured [])
-        (stores_operands (body_of p q) (block_point q.body ToCaller) (free p q.body) 1 q.params q.captured)
-        (captured-good n _ _ 0 q.captured [] (λ x i. own-slot x (inl i)) (omega (arith, width, narrow)))
-        (operands-good _ (free p q.body) 1 q.params q.captured (λ x i. own-slot x (inr i)) (lit≤ tt) (omega (arith, few))))
+        let width = below-largest p.procs q at in (
+          record { field_ok = small; map_ok = tt; place_ok = refl; small = frame-narrow; spares_first = tt },
+          good-append p w narrow
+              (stores_captured (body_of p q) n (block_point q.body ToCaller) (operands_map (free p q.body) 1 q.params) 0 q.captured [])
+              (stores_operands (body_of p q) (block_point q.body ToCaller) (free p q.body) 1 q.params q.captured)
+              (captured-good n _ _ 0 q.captured [] (λ x i. own-slot x (inl i)) (omega (arith, width, narrow)))
+              (operands-good _ (free p q.body) 1 q.params q.captured (λ x i. own-slot x (inr i)) (lit≤ tt) (omega (arith, few))),
+        )
 
     counting-good : (n : ℕ) (b : Bool) → q.rest ≡ b → Good p w narrow (counting b q.params) (AtArgs n) (Some q.place)
     counting-good n false e = let few = (entering p rules fits q at).few in record { field_ok = few; map_ok = tt; place_ok = refl; small = omega arith; spares_first = tt }
@@ -146,6 +151,7 @@ module _ (p : AnfTree) (rules : KeepsRules p) (fits : Fits p) (narrow : width_of
       let l = length (lambdas_of p) in
       let last = code_lambdas p 0 (lambdas_of p) (l + labels_within (forms_of p)) in
       good-append p w narrow (code_forms p 0 (forms_of p) l) (Does I.End (Inside (AtValue (ToTop (length (forms_of p)))) Away []) None ∷ last)
-      (forms-good 0 (forms_of p) l (form-in p rules))
-      (record { field_ok = tt; map_ok = tt; place_ok = refl; small = omega arith; spares_first = tt },
-      lambdas-good 0 (lambdas_of p) (l + labels_within (forms_of p)) (lambda-in p rules) (omega arith))
+      (forms-good 0 (forms_of p) l (form-in p rules)) (
+        record { field_ok = tt; map_ok = tt; place_ok = refl; small = omega arith; spares_first = tt },
+        lambdas-good 0 (lambdas_of p) (l + labels_within (forms_of p)) (lambda-in p rules) (omega arith),
+      )

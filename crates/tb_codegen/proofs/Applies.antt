@@ -242,13 +242,22 @@ module _ (p : AnfTree) (notes : List Note) (limit : ℕ) (c : Assembled) where
       let number : slice_get regs2 16 ≡ Some (W.Fix (pos (length vs))) = get-set (put_words 1 us x.regs) 16 n (omega arith) ∙ ap (λ n. Some (W.Fix (pos n))) el2 in
       let reg0 : slice_get regs2 0 ≡ Some (W.Pointer procedure_tag ad) = get-set-other (put_words 1 us x.regs) 16 0 _ n (λ q. omega arith) (put_below 1 0 us x.regs _ (omega arith) (e0 ∙ ap (λ t. Some (W.Pointer t ad)) tg)) in
       let call : AtCall p w x.st m regs2 l vs = record {
-        itself = ad; caught = caught; link = subst (λ t. IsIn (Lk t ad l) w) tg lk; item = there; long = long; reg0 = reg0; number = number; few = few;
-        ops = put_ins w 1 1 us vs x.regs n rs refl (omega arith) (omega arith) } in
+        itself = ad;
+        caught = caught;
+        link = subst (λ t. IsIn (Lk t ad l) w) tg lk;
+        item = there;
+        long = long;
+        reg0 = reg0;
+        number = number;
+        few = few;
+        ops = put_ins w 1 1 us vs x.regs n rs refl (omega arith) (omega arith);
+      } in
       let seen : (z : ℕ) → IsIn z (values_locations (At l ∷ va ∷ [])) → Seen p cf z =
-          λ z i. root (⊎_elim (in-left (below (length p.statics)) _ z) (λ g. in-right (below (length p.statics)) _ z (in-left (values_locations (env_values F)) _ z g)) (reach z i)) in
+      λ z i. root (⊎_elim (in-left (below (length p.statics)) _ z) (λ g. in-right (below (length p.statics)) _ z (in-left (values_locations (env_values F)) _ z g)) (reach z i)) in
       let about : AboutTo p notes cf (Closure l) vs m x.es (l ∷ values_locations vs) = record {
         enters = rw (values, there, el) refl;
-        reached = λ z i. ⊎_elim (λ g. seen z (inl g)) (λ g. elements_seen p cf 12 va vs el (λ y h. seen y (inr (in-left (value_locations va) [] y h))) z g) i } in
+        reached = λ z i. ⊎_elim (λ g. seen z (inl g)) (λ g. elements_seen p cf 12 va vs el (λ y h. seen y (inr (in-left (value_locations va) [] y h))) z g) i;
+      } in
       rw (e0, tg, hd, e1, em, cd) (1, (w, rw (s.1 x) (r_calls x.es note call about to.marked to.rel mem (length-set (put_words 1 us x.regs) 16 n ∙ lp ∙ len))), inl (omega arith))
 
   applied_at : (x : Still) {w : World} {ad l : ℕ} {f a : Operand} {q : Place} {b : Block} {js gs : Waiting} {o : Option (List ℕ)}

@@ -227,16 +227,20 @@ module _ (p : AnfTree) (all : List Noted) where
       let z : suc base + r.0 ≡ base + suc r.0 = omega arith in
       (suc r.0, r.1 ∙ ap Some z, r.2)
   label-note a base o is l n (c_mark {l = m} {n = k} {is = js} h) (inl e) ap_is =
-      let z : base ≡ base + 0 = omega arith in
-      (0, ap (λ t. cond t (Some base) (stands_at l base (items_of js))) (eq-eqb m l (mark-label e)) ∙ ap Some z,
-      first-note a k js h ∙ ap (λ u. Some (note_at a u)) (mark-note e))
+      let z : base ≡ base + 0 = omega arith in (
+        0,
+        ap (λ t. cond t (Some base) (stands_at l base (items_of js))) (eq-eqb m l (mark-label e)) ∙ ap Some z,
+        first-note a k js h ∙ ap (λ u. Some (note_at a u)) (mark-note e),
+      )
   label-note a base o is l n (c_mark {l = m} {is = js} h) (inr i) ap_is =
       let r = label-note a base _ js l n h i ap_is.1 in
       (r.0, other-label m l base js (λ e. ap_is.0 (subst (λ k. IsIn k (labels (items_of js))) (sym e) (mark-in l n js i))) ∙ r.1, r.2)
   label-note a base o is l n (c_dead {l = m} {n = k} {is = js} h) (inl e) ap_is =
-      let z : base ≡ base + 0 = omega arith in
-      (0, ap (λ t. cond t (Some base) (stands_at l base (items_of js))) (eq-eqb m l (mark-label e)) ∙ ap Some z,
-      first-note a k js h ∙ ap (λ u. Some (note_at a u)) (mark-note e))
+      let z : base ≡ base + 0 = omega arith in (
+        0,
+        ap (λ t. cond t (Some base) (stands_at l base (items_of js))) (eq-eqb m l (mark-label e)) ∙ ap Some z,
+        first-note a k js h ∙ ap (λ u. Some (note_at a u)) (mark-note e),
+      )
   label-note a base o is l n (c_dead {l = m} {is = js} h) (inr i) ap_is =
       let r = label-note a base _ js l n h i ap_is.1 in
       (r.0, other-label m l base js (λ e. ap_is.0 (subst (λ k. IsIn k (labels (items_of js))) (sym e) (mark-in l n js i))) ∙ r.1, r.2)
@@ -395,17 +399,22 @@ pub code-follows : (p : AnfTree) → IsApart (labels (items_of (noted_items p)))
     Follows p (notes_of (number_of (items_of (noted_items p))) (noted_items p)) (code_of p)
 code-follows p apart start whole found = record {
   each = λ pc n g.
-    let w = walk p (noted_items p) apart start whole 0 [] (noted_items p) start pc n refl refl whole g in
-    let z : 0 + pc ≡ pc = omega arith in
-    let N = notes_of (number_of (items_of (noted_items p))) (noted_items p) in
-    (w.instr, w.found, (w.behind,
-    subst (λ q. Ok p (HasNote p N) (Further p N pc) w.instr q n w.behind)
-    (sym (ap (place_of (item_places 0 (items_of (noted_items p)))) (sym z) ∙ place-at 0 (noted_items p) pc w.placed w.place_found))
-    (subst (λ c. Ok p (HasNote p N) (Further p N c) w.instr w.placed n w.behind) z w.ok),
-    falls-of p (noted_items p) apart start whole pc w.behind w.next));
+      let w = walk p (noted_items p) apart start whole 0 [] (noted_items p) start pc n refl refl whole g in
+      let z : 0 + pc ≡ pc = omega arith in
+      let N = notes_of (number_of (items_of (noted_items p))) (noted_items p) in (
+        w.instr,
+        w.found,
+        (
+          w.behind,
+          subst (λ q. Ok p (HasNote p N) (Further p N pc) w.instr q n w.behind)
+              (sym (ap (place_of (item_places 0 (items_of (noted_items p)))) (sym z) ∙ place-at 0 (noted_items p) pc w.placed w.place_found))
+              (subst (λ c. Ok p (HasNote p N) (Further p N c) w.instr w.placed n w.behind) z w.ok),
+          falls-of p (noted_items p) apart start whole pc w.behind w.next,
+        ),
+      );
   maps = λ pc n g.
-    ap (λ ms. slice_get ms pc) (maps-same (number_of (items_of (noted_items p))) (noted_items p))
-    ∙ slice_get-map note_map (notes_of (number_of (items_of (noted_items p))) (noted_items p)) pc ∙ ap (option_map note_map) g;
+      ap (λ ms. slice_get ms pc) (maps-same (number_of (items_of (noted_items p))) (noted_items p))
+      ∙ slice_get-map note_map (notes_of (number_of (items_of (noted_items p))) (noted_items p)) pc ∙ ap (option_map note_map) g;
   globals = refl;
   statics = refl;
   lambdas = found;

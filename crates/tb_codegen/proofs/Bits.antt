@@ -91,7 +91,7 @@ pub from_chosen : (test : ℕ → Bool) (at : ℕ) (ws all : List Word) (u : Wor
 from_chosen test at [] all u f i = absurd i
 from_chosen test at (w ∷ ws) all u f i =
     let rest : (i : ℕ) (u : Word) → slice_get ws i ≡ Some u → slice_get all (at + 1 + i) ≡ Some u =
-        λ i u e. let z : at + suc i ≡ at + 1 + i = omega arith in subst (λ n. slice_get all n ≡ Some u) z (f (suc i) u e) in
+    λ i u e. let z : at + suc i ≡ at + 1 + i = omega arith in subst (λ n. slice_get all n ≡ Some u) z (f (suc i) u e) in
     ⊎_elim
     (λ (yes : test at ≡ true).
     let k : IsIn u (w ∷ chosen_from test (at + 1) ws) = subst (λ b. IsIn u (cond b (w ∷ chosen_from test (at + 1) ws) (chosen_from test (at + 1) ws))) yes i in
@@ -107,7 +107,7 @@ from_slots es at zero ws all u f i = absurd i
 from_slots es at (suc n) [] all u f i = absurd i
 from_slots es at (suc n) (w ∷ ws) all u f i =
     let rest : (i : ℕ) (u : Word) → slice_get ws i ≡ Some u → slice_get all (suc at + i) ≡ Some u =
-        λ i u e. let z : at + suc i ≡ suc at + i = omega arith in subst (λ n. slice_get all n ≡ Some u) z (f (suc i) u e) in
+    λ i u e. let z : at + suc i ≡ suc at + i = omega arith in subst (λ n. slice_get all n ≡ Some u) z (f (suc i) u e) in
     ⊎_elim
     (λ (yes : any (is_slot at) es ≡ true).
     let k : IsIn u (w ∷ chosen (slot_bits es (suc at) n) ws) = subst (λ b. IsIn u (cond b (w ∷ chosen (slot_bits es (suc at) n) ws) (chosen (slot_bits es (suc at) n) ws))) yes i in

@@ -116,21 +116,35 @@ module _ (p : AnfTree) (all : List Noted) (home : ℕ → ℕ) (size : ℕ) wher
       Chain p all rest (Some (here (body p all home size) (AtValue (Then x k l js)) (value_map (body p all home size) (Then x k l js))))
       (keep (body p all home size) x (Then x k l js)) (Some (block_note (body p all home size) k js))
   keep-chain rest x k l js h =
-      c_does (ok_given x k h.empties h.small (inl refl) (record { into = λ q s i. ⊎_elim
-        (λ g. let v = variables-in c 0 (free p (settled k)) q s g in
-          ⊎_elim
-          (λ e. inl (v.2.spot ∙ ap (λ z. Slot (home z)) (sym e),
-            subst (IsNew x (free p (settled k))) (ap (Variable 0) e ∙ sym v.2.symbol) (is_new (subst (λ z. IsIn z (free p (settled k))) (sym e) v.1))))
-          (λ ne. let y = kept-other x v.0 (free p k) (subst (IsIn v.0) h.settles v.1) ne in
-            inr ((λ e. h.apart v.0 y (slot-same _ _ (e ∙ v.2.spot))),
-            (Variable 1 v.0, inr (in-left (variables c 1 (without (x ∷ []) (free p k))) _ _ (at-home p all home size _ v.0 1 q (Variable 1 v.0) v.2.spot refl (in-variables c 1 v.0 _ y))),
-            subst (Given x (free p (settled k)) (Variable 1 v.0)) (sym v.2.symbol) (g_var v.0 ne v.1))))
-          (cases_eq x v.0))
-        (λ g. let w = waiting-in c 1 js q s g in
-          inr ((λ e. h.waits w.deep w.var w.named (slot-same _ _ (e ∙ w.spot))),
-          (Variable (down 2 w.deep) w.var, inr (in-right (variables c 1 (without (x ∷ []) (free p k))) _ _ (at-home p all home size _ w.var (down 2 w.deep) q (Variable (down 2 w.deep) w.var) w.spot refl (in-waiting c 2 js w.deep w.var w.named))),
-          deeper-given w.deep w.var s w.symbol)))
-        (in-cases (variables c 0 (free p (settled k))) _ _ i) })) c_end
+      c_does (ok_given x k h.empties h.small (inl refl) (record {
+        into = λ q s i. ⊎_elim
+            (λ g. let v = variables-in c 0 (free p (settled k)) q s g in
+            ⊎_elim
+            (λ e. inl (
+              v.2.spot ∙ ap (λ z. Slot (home z)) (sym e),
+              subst (IsNew x (free p (settled k))) (ap (Variable 0) e ∙ sym v.2.symbol) (is_new (subst (λ z. IsIn z (free p (settled k))) (sym e) v.1)),
+            ))
+            (λ ne. let y = kept-other x v.0 (free p k) (subst (IsIn v.0) h.settles v.1) ne in
+            inr (
+              (λ e. h.apart v.0 y (slot-same _ _ (e ∙ v.2.spot))),
+              (
+                Variable 1 v.0,
+                inr (in-left (variables c 1 (without (x ∷ []) (free p k))) _ _ (at-home p all home size _ v.0 1 q (Variable 1 v.0) v.2.spot refl (in-variables c 1 v.0 _ y))),
+                subst (Given x (free p (settled k)) (Variable 1 v.0)) (sym v.2.symbol) (g_var v.0 ne v.1),
+              ),
+            ))
+            (cases_eq x v.0))
+            (λ g. let w = waiting-in c 1 js q s g in
+            inr (
+              (λ e. h.waits w.deep w.var w.named (slot-same _ _ (e ∙ w.spot))),
+              (
+                Variable (down 2 w.deep) w.var,
+                inr (in-right (variables c 1 (without (x ∷ []) (free p k))) _ _ (at-home p all home size _ w.var (down 2 w.deep) q (Variable (down 2 w.deep) w.var) w.spot refl (in-waiting c 2 js w.deep w.var w.named))),
+                deeper-given w.deep w.var s w.symbol,
+              ),
+            ))
+            (in-cases (variables c 0 (free p (settled k))) _ _ i);
+      })) c_end
     where
       c : Body
       c = body p all home size
@@ -159,9 +173,13 @@ module _ (p : AnfTree) (all : List Noted) (home : ℕ → ℕ) (size : ℕ) wher
   pub arm-from : (op : Op) (b k : Block) (js gs : Waiting) (o : Option (List ℕ)) (a : ℕ) (ds : List Operand) →
       OpAt (captured_in p) op k js gs o → ((y : ℕ) → IsIn y (free p b) → IsIn (Stands (Slot (home y)) (Variable 0 y)) (block_map (body p all home size) k js)) →
       From (Under o (free p b)) (block_map (body p all home size) b gs) (loaded a ds (block_map (body p all home size) k js))
-  arm-from op b k js gs o a ds at st = record { from = λ q s i. ⊎_elim
-      (λ h. let v = variables-in (body p all home size) 0 (free p b) q s h in
-        (Variable 0 v.0, in-loaded _ a ds _ (at-home p all home size _ v.0 0 q (Variable 0 v.0) v.2.spot refl (st v.0 v.1)),
-        subst (Under o (free p b) (Variable 0 v.0)) (sym v.2.symbol) (u_own v.0 v.1)))
-      (λ h. let u = waits-under p all home size op k js gs o (free p b) at q s h in (u.0, in-loaded _ a ds _ u.1, u.2))
-      (in-cases (variables (body p all home size) 0 (free p b)) _ _ i) }
+  arm-from op b k js gs o a ds at st = record {
+    from = λ q s i. ⊎_elim
+        (λ h. let v = variables-in (body p all home size) 0 (free p b) q s h in (
+          Variable 0 v.0,
+          in-loaded _ a ds _ (at-home p all home size _ v.0 0 q (Variable 0 v.0) v.2.spot refl (st v.0 v.1)),
+          subst (Under o (free p b) (Variable 0 v.0)) (sym v.2.symbol) (u_own v.0 v.1),
+        ))
+        (λ h. let u = waits-under p all home size op k js gs o (free p b) at q s h in (u.0, in-loaded _ a ds _ u.1, u.2))
+        (in-cases (variables (body p all home size) 0 (free p b)) _ _ i);
+  }

@@ -94,11 +94,13 @@ module _ (p : AnfTree) (notes : List Note) (limit : ℕ) where
 
   saved_backs : (w : World) (st : List Item) (o : Option (List ℕ)) (old ret : List Entry) (r : Env) (rs qs : List Env) (regs slots : List Word) →
       qs ≡ pushed p [] [] o r rs → Backs o ret old → Holds p st w (r ∷ rs) regs slots old → Saved w qs slots ret
-  saved_backs w st o old ret r rs qs regs slots e b h = record { saved = λ q s i. ⊎_elim inl
-      (λ k.
-      let a = h.holds (Slot k.0) k.1 k.3 in
-      inr (k.0, k.2, record { value = a.value; word = a.word; means = subst (λ qs. meaning (Empty ∷ qs) s ≡ Some a.value) (sym e) (under_name p st st o [] r Empty rs k.1 s a.value (λ y i. absurd i) k.4 a.means); here = a.here; rel = a.rel }))
-      (b.backs q s i) }
+  saved_backs w st o old ret r rs qs regs slots e b h = record {
+    saved = λ q s i. ⊎_elim inl
+        (λ k.
+        let a = h.holds (Slot k.0) k.1 k.3 in
+        inr (k.0, k.2, record { value = a.value; word = a.word; means = subst (λ qs. meaning (Empty ∷ qs) s ≡ Some a.value) (sym e) (under_name p st st o [] r Empty rs k.1 s a.value (λ y i. absurd i) k.4 a.means); here = a.here; rel = a.rel }))
+        (b.backs q s i);
+  }
 
   caller_frames : (w : World) (gs : Waiting) (qs : List Env) (hs fs : AnfFrames) (ms : List MacFrame) → gs ≡ ToCaller → JRel gs qs hs fs → FsRel p notes w fs ms → CallsTo w hs ms
   caller_frames w gs qs hs fs ms e j_caller (f_then x k l r n j long s f) = record { first = waits true x k r; others = _; marked = refl; rel = f_then x k l r n j long s f }
@@ -191,11 +193,20 @@ module _ (p : AnfTree) (notes : List Note) (limit : ℕ) where
         let item : slice_get x.st l ≡ Some (Clo m (bind_all (captured_in p m) caught Empty)) = there ∙ ap (λ r. Some (Clo m r)) er in
         let number : slice_get (slice_set x.regs 16 (W.Fix (pos n))) 16 ≡ Some (W.Fix (pos (length vs))) = get-set x.regs 16 (W.Fix (pos n)) (omega arith) ∙ ap (λ n. Some (W.Fix (pos n))) (en ∙ lb) in
         let call : AtCall p w x.st m (slice_set x.regs 16 (W.Fix (pos n))) l vs = record {
-          itself = a; caught = caught; link = subst (λ t. IsIn (Lk t a l) w) tg lk; item = item; long = long;
-          reg0 = get-set-other x.regs 16 0 _ _ (λ z. omega arith) (e0 ∙ ap (λ t. Some (W.Pointer t a)) tg); number = number; few = subst (λ n. n ≤ 12) (en ∙ lb) le; ops = opers_ins w r x.regs (W.Fix (pos n)) 1 ds us vs (omega arith) ops } in
+          itself = a;
+          caught = caught;
+          link = subst (λ t. IsIn (Lk t a l) w) tg lk;
+          item = item;
+          long = long;
+          reg0 = get-set-other x.regs 16 0 _ _ (λ z. omega arith) (e0 ∙ ap (λ t. Some (W.Pointer t a)) tg);
+          number = number;
+          few = subst (λ n. n ≤ 12) (en ∙ lb) le;
+          ops = opers_ins w r x.regs (W.Fix (pos n)) 1 ds us vs (omega arith) ops;
+        } in
         let about : AboutTo p notes (config p notes (Eval (InOp (Call f ds q)) (gather (free_op (captured_in p) (Call f ds q)) r)) s.0 x.globals x.st x.cin x.met) (Closure l) vs m x.es (l ∷ values_locations vs) = record {
           enters = rw (values, there) refl;
-          reached = λ z i. root (⊎_elim (in-left (below (length p.statics)) _ z) (λ g. in-right (below (length p.statics)) _ z (in-left (values_locations (env_values (gather (free_op (captured_in p) (Call f ds q)) r))) _ z g)) (reach z i)) } in
+          reached = λ z i. root (⊎_elim (in-left (below (length p.statics)) _ z) (λ g. in-right (below (length p.statics)) _ z (in-left (values_locations (env_values (gather (free_op (captured_in p) (Call f ds q)) r))) _ z g)) (reach z i));
+        } in
         rw (e0, tg, hd, cd) (1, (w, rw (s.1 x) (r_calls x.es note call about to.marked to.rel mem (length-set x.regs 16 (W.Fix (pos n)) ∙ len))), inl (omega arith))
 
     invoked : (x : Still) {w : World} {n : ℕ} {f : Operand} {ds : List Operand} {q : Place} {b : Block} {js gs : Waiting} {o : Option (List ℕ)}
@@ -258,5 +269,6 @@ module _ (p : AnfTree) (notes : List Note) (limit : ℕ) where
         let about : AboutTo p notes (config p notes (Eval (InOp (Direct m ds)) (gather F r)) s.0 x.globals x.st x.cin x.met) (Lifted m) t.1 m x.es (values_locations t.1) = record {
           enters = rw values refl;
           reached = λ z i. root (⊎_elim (in-left (below (length p.statics)) _ z) (λ g. in-right (below (length p.statics)) _ z (in-left (values_locations (env_values (gather F r))) _ z g))
-              (operands_location w p.statics old _ ds F r x.regs t.0 t.1 z wr args (λ y i. i) t.2 i)) } in
+              (operands_location w p.statics old _ ds F r x.regs t.0 t.1 z wr args (λ y i. i) t.2 i));
+        } in
         (1, (w, rw (s.1 x) (r_lifted x.es g n lf starts (sym (opers_length w r x.regs _ ds t.0 t.1 t.2) ∙ count) (opers_ins_same w r x.regs 1 ds t.0 t.1 t.2) about to.marked to.rel mem len)), inl (omega arith))

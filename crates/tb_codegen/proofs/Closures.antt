@@ -79,17 +79,19 @@ pub p_fill : (w : World) (heap : List Word) (a j : ℕ) (vs : List Value) (u : W
 p_fill w heap a j [] u v e r p_none = cc
 p_fill w heap a zero (x ∷ vs) u v e r (p_zero f p) =
     let s : x ≡ v = cc (e) in
-    let z : a + 0 ≡ a = omega arith in
-    (subst (λ n. slice_get heap n ≡ Some (W.Fix (pos 0))) (sym z) f,
-    subst (λ n. PRel w (slice_set heap n u) a 1 (x ∷ vs)) (sym z)
-    (p_full (get-set heap a u (get-within heap a _ f)) (subst (λ v. WRel w u v) (sym s) r)
-    (p_agree w w (λ k i. i) heap (slice_set heap a u) (suc a) 0 (suc a + length vs) vs (omega arith) (agree_set heap a u (suc a) (suc a + length vs) (inl (omega arith))) p)))
+    let z : a + 0 ≡ a = omega arith in (
+      subst (λ n. slice_get heap n ≡ Some (W.Fix (pos 0))) (sym z) f,
+      subst (λ n. PRel w (slice_set heap n u) a 1 (x ∷ vs)) (sym z)
+          (p_full (get-set heap a u (get-within heap a _ f)) (subst (λ v. WRel w u v) (sym s) r)
+          (p_agree w w (λ k i. i) heap (slice_set heap a u) (suc a) 0 (suc a + length vs) vs (omega arith) (agree_set heap a u (suc a) (suc a + length vs) (inl (omega arith))) p)),
+    )
 p_fill w heap a (suc j) (x ∷ vs) u v e r (p_full {u = y} f q p) =
     let t = p_fill w heap (suc a) j vs u v e r p in
-    let z : suc a + j ≡ a + suc j = omega arith in
-    (subst (λ n. slice_get heap n ≡ Some (W.Fix (pos 0))) z t.0,
-    p_full (get-set-other heap (a + suc j) a y u (λ q. absurd (omega arith)) f) q
-    (subst (λ n. PRel w (slice_set heap n u) (suc a) (suc j) vs) z t.1))
+    let z : suc a + j ≡ a + suc j = omega arith in (
+      subst (λ n. slice_get heap n ≡ Some (W.Fix (pos 0))) z t.0,
+      p_full (get-set-other heap (a + suc j) a y u (λ q. absurd (omega arith)) f) q
+          (subst (λ n. PRel w (slice_set heap n u) (suc a) (suc j) vs) z t.1),
+    )
 
 module _ (p : AnfTree) (notes : List Note) where
   -- the words of a procedure that is being filled
@@ -115,8 +117,15 @@ module _ (p : AnfTree) (notes : List Note) where
       let l3 : length ws ≡ length (captured_in p m) = subst (λ m. length ws ≡ length (captured_in p m)) en long2 in
       let e2 : bind_all (captured_in p m) ws Empty ≡ bind_all (captured_in p m) us Empty = subst (λ n. bind_all (captured_in p n) ws Empty ≡ r) en (sym er) ∙ eq in
       let same = same_caught (captured_in p m) ws us l3 long e2 in
-      record { is_tag = tg; entry = x; head = subst (λ us. slice_get heap a ≡ Some (W.Header procedure_kind (length us))) same hd; code = cd;
-        note = subst (λ n. HasNote p notes x (AtProc n)) en note; long = long; words = subst (λ us. PRel w heap (a + 2) j us) same pr }
+      record {
+        is_tag = tg;
+        entry = x;
+        head = subst (λ us. slice_get heap a ≡ Some (W.Header procedure_kind (length us))) same hd;
+        code = cd;
+        note = subst (λ n. HasNote p notes x (AtProc n)) en note;
+        long = long;
+        words = subst (λ us. PRel w heap (a + 2) j us) same pr;
+      }
 
   -- a new procedure's words
   pub procedure_made : (z : World) (heap : List Word) (n l m : ℕ) (us : List Value) → HasNote p notes l (AtProc m) → n ≡ length us → length us ≡ length (captured_in p m) →
@@ -223,22 +232,22 @@ module _ (p : AnfTree) (notes : List Note) where
         let size : n ≡ length us = count ∙ sym vs.long in
         let s = op_starts p notes limit r at j in
         let env : gather (captured_in p m) (gather (captured_in p m) r) ≡ bind_all (captured_in p m) us Empty =
-            gather-sub (captured_in p m) (captured_in p m) r (λ y i. i) ∙ subst (λ xs. gather xs r ≡ bind_all xs us Empty) (sym xs) vs.same in
+        gather-sub (captured_in p m) (captured_in p m) r (λ y i. i) ∙ subst (λ xs. gather xs r ≡ bind_all xs us Empty) (sym xs) vs.same in
         ⊎_elim
         (λ less. rw (lt-ltb (length x.gap) (length (new_procedure n l)) less) (0, (w, r_full refl (r_inside x.es here (at_block b r cut j) h o2 fs mem len)), inr (inr refl)))
         (λ ge.
         let there : slice_get (x.st ++ i ∷ []) (length x.st) ≡ Some i = get-last x.st i in
         let hh = holds-into p x.st (x.st ++ i ∷ []) w z (λ k i. inr i) (r ∷ rs) (Env.Bind 0 (At (length x.st)) Empty ∷ pushed p x.st x.st o r rs) x.regs slots d _ _ new old (W.Pointer procedure_tag (length x.heap)) (omega arith) h into
-            (first-put p (x.st ++ i ∷ []) z (W.Pointer procedure_tag (length x.heap)) (At (length x.st)) _ (w_at (inl refl)))
-            (opens x.st (x.st ++ i ∷ []) o m (length x.st) q.captured us r rs xs there long vs.each) in
+        (first-put p (x.st ++ i ∷ []) z (W.Pointer procedure_tag (length x.heap)) (At (length x.st)) _ (w_at (inl refl)))
+        (opens x.st (x.st ++ i ∷ []) o m (length x.st) q.captured us r rs xs there long vs.each) in
         let e : run (step_of p notes) 2 (source p notes limit x (Eval (InBlock b) r) _) ≡ source p notes limit (record x { st = x.st ++ i ∷ [] }) (Val (At (length x.st))) s.0 =
-            ap (step_of p notes) (s.1 x) ∙ rw env refl in
+        ap (step_of p notes) (s.1 x) ∙ rw env refl in
         let y = record x { pc = x.pc + 1; regs = slice_set x.regs d (W.Pointer procedure_tag (length x.heap)); heap = x.heap ++ new_procedure n l; gap = drop (length (new_procedure n l)) x.gap; st = x.st ++ i ∷ [] } in
         let fits : closure_count (Some (W.Header procedure_kind n)) + data_size (Some (W.Header procedure_kind n)) ≤ closures_in i + words_in i = omega arith in
         let mem2 = mem_open w x.heap (new_procedure n l) x.st x.globals x.ahead x.input x.cin x.met i (W.Header procedure_kind n) mem (at_end x.heap (new_procedure n l) _ refl) (long_procedure n l) fits
-            (procedure_made z x.heap n l m us note size long) in
+        (procedure_made z x.heap n l m us note size long) in
         let rel : Rel p notes z (target p notes limit y top) (source p notes limit y (Val (At (length x.st))) s.0) =
-            r_inside x.es next (at_fill m 0 (length x.st) us s.2 there long) hh o2 (fs-more p notes w z (λ k i. inr i) _ _ fs) mem2 (length-set x.regs d _ ∙ len) in
+        r_inside x.es next (at_fill m 0 (length x.st) us s.2 there long) hh o2 (fs-more p notes w z (λ k i. inr i) _ _ fs) mem2 (length-set x.regs d _ ∙ len) in
         let two : 0 < 2 = omega arith in
         rw (le-ltb (length x.gap) (length (new_procedure n l)) ge) (2, (z, rw e rel), inl two))
         (cases_lt (length x.gap) (length (new_procedure n l)))
@@ -309,7 +318,7 @@ module _ (p : AnfTree) (notes : List Note) where
         let cap = captured_there x.heap t ad (length us) j hf.is_tag hf.head lt in
         let rel = filled_more w x.heap t ad l m j us u v (fill_of o2 l) hf g uv fl in
         let mem2 = mem_fill w (Opened l j) o2 x.heap x.st x.globals x.ahead x.input x.cin x.met t ad l (ad + 2 + j) u v (Clo m (bind_all (captured_in p m) us Empty)) mem k there (hf.is_tag) pf.0 uv (omega arith) (in_procedure x.heap ad (length us) j hf.head lt) rel
-            (λ n ne. fills n ne ∙ sym (other l n j ne)) (λ n b. before n) none in
+        (λ n ne. fills n ne ∙ sym (other l n j ne)) (λ n b. before n) none in
         let mem3 = subst (λ o. Memory p notes w o (slice_set x.heap (ad + 2 + j) u) x.st x.globals x.ahead x.input x.cin x.met) (sym op) mem2 in
         let rel2 : Rel p notes w (target p notes limit (record x { pc = x.pc + 1; heap = slice_set x.heap (ad + 2 + j) u }) _) (source p notes limit x (Val (At l)) _) = r_inside x.es next pr h o f mem3 len in
         let less : limit - (x.pc + 1) < limit - x.pc = omega arith in

@@ -185,6 +185,7 @@ module _ (p : AnfTree) (all : List Noted) (home : ℕ → ℕ) (size : ℕ) wher
 
   mutual
     unfolding code_block code_bound code_last
+
     -- a block's code, from its note to where it ends
     pub block-chain : (rest : List Noted) (b : Block) (js : Waiting) (l : ℕ) (ws : List ℕ) → BlockOk p all home size b ws → Named-in js ws →
         WaitOk p all home size rest js → Within p all home size (code_block c b js l) →
@@ -252,7 +253,7 @@ module _ (p : AnfTree) (all : List Noted) (home : ℕ → ℕ) (size : ℕ) wher
         let first = code_block c b js (l + 2) in
         let brf = Does (I.Brf 1 (suc l)) (here c (AtBlock (Tail (Branch a b d)) js) (loaded 1 (a ∷ []) (block_map c (Tail (Branch a b d)) js))) None in
         let in_rest = λ (n : Noted) (i : IsIn n (first ++ (passing js l ++ second))).
-            sub n (in-right test (brf ∷ (first ++ (passing js l ++ second))) n (inr i)) in
+        sub n (in-right test (brf ∷ (first ++ (passing js l ++ second))) n (inr i)) in
         let in_second = λ (n : Noted) (i : IsIn n second). in_rest n (in-right first (passing js l ++ second) n (in-right (passing js l) second n i)) in
         subst (λ is. Chain p all rest (Some (here c (AtBlock (Tail (Branch a b d)) js) (block_map c (Tail (Branch a b d)) js))) is (end_of p all home size js))
         (append_assoc test (brf ∷ []) (first ++ (passing js l ++ second)))

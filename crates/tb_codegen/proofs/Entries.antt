@@ -49,10 +49,12 @@ at_binds (y ∷ xs) (u ∷ us) (suc j) x a len e =
 -- the environment of a body has what its procedure captured
 entry_caps : (p : AnfTree) (m : ℕ) (ps zs : List ℕ) (vs us : List Value) → IsApart (captured_in p m) → Caught ps (captured_in p m) zs → length us ≡ length (captured_in p m) →
     Caps p (gather zs (bind_all ps vs (bind_all (captured_in p m) us Empty))) m us
-entry_caps p m ps zs vs us a c len = record { caps = λ j x e.
-    let h = at_binds (captured_in p m) us j x a len e in
-    let f = c.caught x (get-in (captured_in p m) j x e) in
-    (h.0, h.1, lookup-gather zs (bind_all ps vs (bind_all (captured_in p m) us Empty)) x f.0 ∙ past_binds ps vs (bind_all (captured_in p m) us Empty) x f.1 ∙ h.2) }
+entry_caps p m ps zs vs us a c len = record {
+  caps = λ j x e.
+      let h = at_binds (captured_in p m) us j x a len e in
+      let f = c.caught x (get-in (captured_in p m) j x e) in
+      (h.0, h.1, lookup-gather zs (bind_all ps vs (bind_all (captured_in p m) us Empty)) x f.0 ∙ past_binds ps vs (bind_all (captured_in p m) us Empty) x f.1 ∙ h.2);
+}
 
 -- a parameter in the register of its operand
 record Operand' (w : World) (regs : List Word) (r : Env) (y i : ℕ) : Type 0 where
@@ -77,24 +79,28 @@ pub starts_hold : (p : AnfTree) (st : List Item) (w : World) (m l : ℕ) (regs :
     Holds p st w (gather zs (bind_all ps vs (bind_all (captured_in p m) us Empty)) ∷ []) regs [] map
 starts_hold p st w m l regs ps zs vs us map u item len e uv ap_xs ca ins count s =
     let r = gather zs (bind_all ps vs (bind_all (captured_in p m) us Empty)) in
-    record { holds = λ q z i. ⊎_elim
-        (λ k. subst₂ (λ q z. HasAny p st w (r ∷ []) regs [] q z) (sym k.0) (sym k.1)
-        (record { value = At l; word = u; means = m_itself m l us item len (entry_caps p m ps zs vs us ap_xs ca len); here = e; rel = uv }))
-        (λ k.
-        let h = param_given w regs ps vs (bind_all (captured_in p m) us Empty) k.0 k.1 1 ins k.5 count in
-        subst₂ (λ q z. HasAny p st w (r ∷ []) regs [] q z) (sym k.2) (sym k.3)
-        (record { value = h.value; word = h.word; means = m_name (lookup-gather zs (bind_all ps vs (bind_all (captured_in p m) us Empty)) k.0 k.4 ∙ h.means); here = h.here; rel = h.rel }))
-        (s.begins q z i) }
+    record {
+      holds = λ q z i. ⊎_elim
+          (λ k. subst₂ (λ q z. HasAny p st w (r ∷ []) regs [] q z) (sym k.0) (sym k.1)
+          (record { value = At l; word = u; means = m_itself m l us item len (entry_caps p m ps zs vs us ap_xs ca len); here = e; rel = uv }))
+          (λ k.
+          let h = param_given w regs ps vs (bind_all (captured_in p m) us Empty) k.0 k.1 1 ins k.5 count in
+          subst₂ (λ q z. HasAny p st w (r ∷ []) regs [] q z) (sym k.2) (sym k.3)
+          (record { value = h.value; word = h.word; means = m_name (lookup-gather zs (bind_all ps vs (bind_all (captured_in p m) us Empty)) k.0 k.4 ∙ h.means); here = h.here; rel = h.rel }))
+          (s.begins q z i);
+    }
 
 lifted_hold : (p : AnfTree) (st : List Item) (w : World) (regs : List Word) (ps zs : List ℕ) (vs : List Value) (map : List Entry) →
     Ins w regs 1 vs → length ps ≡ length vs → StartsLifted ps zs map → Holds p st w (gather zs (bind_all ps vs Empty) ∷ []) regs [] map
 lifted_hold p st w regs ps zs vs map ins count s =
     let r = gather zs (bind_all ps vs Empty) in
-    record { holds = λ q z i.
-        let k = s.begins_lifted q z i in
-        let h = param_given w regs ps vs Empty k.0 k.1 1 ins k.5 count in
-        subst₂ (λ q z. HasAny p st w (r ∷ []) regs [] q z) (sym k.2) (sym k.3)
-        (record { value = h.value; word = h.word; means = m_name (lookup-gather zs (bind_all ps vs Empty) k.0 k.4 ∙ h.means); here = h.here; rel = h.rel }) }
+    record {
+      holds = λ q z i.
+          let k = s.begins_lifted q z i in
+          let h = param_given w regs ps vs Empty k.0 k.1 1 ins k.5 count in
+          subst₂ (λ q z. HasAny p st w (r ∷ []) regs [] q z) (sym k.2) (sym k.3)
+          (record { value = h.value; word = h.word; means = m_name (lookup-gather zs (bind_all ps vs Empty) k.0 k.4 ∙ h.means); here = h.here; rel = h.rel });
+    }
 
 module _ (p : AnfTree) (notes : List Note) (limit : ℕ) (c : Assembled) where
   pub step_proc : (x : Still) {w : World} {m l : ℕ} {control : Control Code} {f : Frame AnfWork} {gs fs : AnfFrames} {vs : List Value} {ms : List MacFrame} (k : ℕ) →
@@ -115,7 +121,7 @@ module _ (p : AnfTree) (notes : List Note) (limit : ℕ) (c : Assembled) where
       let test : length q.params == length vs ≡ true = eq-eqb (length q.params) (length vs) (sym count) in
       let nil : q.params ++ [] ≡ q.params = append-nil q.params in
       let e : run (step_of p notes) 2 (source p notes limit x control gs) ≡ source p notes limit (record x { es = x.es ++ Event.Enter m ∷ [] }) (Eval (InBlock q.body) (gather (free p q.body) (bind_all q.params vs Empty))) (f ∷ fs) =
-          ap (step_of p notes) about.enters ∙ rw (lf.there, lf.no_rest, nil, test, sym marked) refl in
+      ap (step_of p notes) about.enters ∙ rw (lf.there, lf.no_rest, nil, test, sym marked) refl in
       lands_block p notes limit (record x { pc = x.pc + 1; es = x.es ++ Event.Enter m ∷ [] }) q.body (bind_all q.params vs Empty) _ 2 k se e (omega arith) n j_caller
       (lifted_hold p x.st w x.regs q.params (free p (settled q.body)) vs new ins (sym count) starts) o_away fr mem len
 
@@ -179,7 +185,7 @@ module _ (p : AnfTree) (notes : List Note) (limit : ℕ) (c : Assembled) where
       let whole = subst (λ o. ORel p notes w x.heap (fill_of o l) b d0.item) cl d0.rel in
       let t2 = caught_word w x.heap t b m j d0.item us z.0 d0.tag whole same long z.1 in
       let hh = holds-into p x.st x.st w w (λ k i. i) rs rs x.regs slots d _ _ new old t2.0 (omega arith) h into
-          (name_put w t2.0 rs x.st y z.0 z.2 t2.3) (same-means p x.st rs) in
+      (name_put w t2.0 rs x.st y z.0 z.2 t2.3) (same-means p x.st rs) in
       rw (here, t2.1, t2.2) (quiet p notes limit x (record x { pc = x.pc + 1; regs = slice_set x.regs d t2.0 }) n pr hh o f mem (length-set x.regs d t2.0 ∙ len) (omega arith) within)
     where
       name_put : (w : World) (u : Word) (rs : List Env) (st : List Item) (y : ℕ) (v : Value) → lookup (env_at rs 0) y ≡ Some v → WRel w u v → Puts p st st (IsThat (Variable 0 y)) w u rs

@@ -249,18 +249,20 @@ module _ (p : AnfTree) (all : List Noted) (home : ℕ → ℕ) (size : ℕ) wher
       stored : Into (Slot (home x)) (StandsAt (Reg 16) (Stands (Reg 16) (Variable 0 x) ∷ (itself_map m xs ++ (operand_entries q ++ variables c 0 done)))) Same
           (itself_map m xs ++ (operand_entries q ++ variables c 0 (x ∷ done)))
           (Stands (Reg 16) (Variable 0 x) ∷ (itself_map m xs ++ (operand_entries q ++ variables c 0 done)))
-      stored = record { into = λ r s i. ⊎_elim
-          (λ j. inr ((λ z. reg-slot _ _ (sym (itself-spot m xs r s j) ∙ sym z)), (s, inr (in-left (itself_map m xs) _ _ j), same s)))
-          (λ j. ⊎_elim
+      stored = record {
+        into = λ r s i. ⊎_elim
+            (λ j. inr ((λ z. reg-slot _ _ (sym (itself-spot m xs r s j) ∙ sym z)), (s, inr (in-left (itself_map m xs) _ _ j), same s)))
+            (λ j. ⊎_elim
             (λ o. let v = operands-in (free p q.body) 1 q.params ap_ps r s o in
-              inr ((λ z. reg-slot v.register _ (sym v.spot ∙ sym z)), (s, inr (in-right (itself_map m xs) _ _ (in-left (operand_entries q) _ _ o)), same s)))
+            inr ((λ z. reg-slot v.register _ (sym v.spot ∙ sym z)), (s, inr (in-right (itself_map m xs) _ _ (in-left (operand_entries q) _ _ o)), same s)))
             (λ v. ⊎_elim
-              (λ t. inl (entry-spot _ r _ s t, stands_at (inl (ap (Stands (Reg 16)) (sym (entry-symbol _ r _ s t))))))
-              (λ u. let t = variables-in c 0 done r s u in
-                inr ((λ z. other_slot t.0 t.1 (slot-same _ _ (z ∙ t.2.spot))), (s, inr (in-right (itself_map m xs) _ _ (in-right (operand_entries q) _ _ u)), same s)))
-              v)
+            (λ t. inl (entry-spot _ r _ s t, stands_at (inl (ap (Stands (Reg 16)) (sym (entry-symbol _ r _ s t))))))
+            (λ u. let t = variables-in c 0 done r s u in
+            inr ((λ z. other_slot t.0 t.1 (slot-same _ _ (z ∙ t.2.spot))), (s, inr (in-right (itself_map m xs) _ _ (in-right (operand_entries q) _ _ u)), same s)))
+            v)
             (in-cases (operand_entries q) (variables c 0 (x ∷ done)) _ j))
-          (in-cases (itself_map m xs) _ _ i) }
+            (in-cases (itself_map m xs) _ _ i);
+      }
 
   -- operands go to the slots of their parameters
   operands-row : (q : ProcTree) (pt : Point) (us : List ℕ) (a : ℕ) (front ys done : List ℕ) → Entering q → IsApart ys →
@@ -284,15 +286,17 @@ module _ (p : AnfTree) (all : List Noted) (home : ℕ → ℕ) (size : ℕ) wher
 
       stored : Into (Slot (home y)) (StandsAt (Reg a) ((Stands (Reg a) (Variable 0 y) ∷ operands_map us (suc a) ys) ++ variables c 0 done)) Same
           (operands_map us (suc a) ys ++ variables c 0 (y ∷ done)) ((Stands (Reg a) (Variable 0 y) ∷ operands_map us (suc a) ys) ++ variables c 0 done)
-      stored = record { into = λ r s i. ⊎_elim
-          (λ o. let v = operands-in us (suc a) ys ap_ys.1 r s o in
+      stored = record {
+        into = λ r s i. ⊎_elim
+            (λ o. let v = operands-in us (suc a) ys ap_ys.1 r s o in
             inr ((λ z. reg-slot v.register _ (sym v.spot ∙ sym z)), (s, inr (in-left (operands_map us (suc a) ys) _ _ o), same s)))
-          (λ v. ⊎_elim
+            (λ v. ⊎_elim
             (λ t. inl (entry-spot _ r _ s t, stands_at (inl (ap (Stands (Reg a)) (sym (entry-symbol _ r _ s t))))))
             (λ u. let t = variables-in c 0 done r s u in
-              inr ((λ z. other_slot t.0 t.1 (slot-same _ _ (z ∙ t.2.spot))), (s, inr (in-right (operands_map us (suc a) ys) _ _ u), same s)))
+            inr ((λ z. other_slot t.0 t.1 (slot-same _ _ (z ∙ t.2.spot))), (s, inr (in-right (operands_map us (suc a) ys) _ _ u), same s)))
             v)
-          (in-cases (operands_map us (suc a) ys) (variables c 0 (y ∷ done)) _ i) }
+            (in-cases (operands_map us (suc a) ys) (variables c 0 (y ∷ done)) _ i);
+      }
 
       by : (b : Bool) → is_in us y ≡ b →
           Row pt (operands_map us (suc a) ys ++ variables c 0 (y ∷ done)) (stores_operands c pt us (suc a) ys (y ∷ done)) (variables c 0 (operands_end us ys (y ∷ done))) →
@@ -325,12 +329,12 @@ module _ (p : AnfTree) (all : List Noted) (home : ℕ → ℕ) (size : ℕ) wher
       (captured w)
       (operands-row q (block_point q.body ToCaller) (free p q.body) 1 q.captured q.params q.captured h (apart-right q.captured q.params h.apart) refl (λ z i. i)))
       (from-sub _ _ (λ r s i. ⊎_elim
-        (λ v. let t = variables-in c 0 (free p (settled q.body)) r s v in
-          let used = subst (IsIn t.0) n.settles t.1 in
-          at-home p all home size _ t.0 0 r s t.2.spot t.2.symbol (in-variables c 0 t.0 _ (in-operands_end (free p q.body) q.params q.captured t.0
-          (⊎_elim (λ j. inr j) (λ j. inl (j, tested-in (free p q.body) t.0 used)) (n.names t.0 used)))))
-        (λ v. absurd v)
-        (in-cases (variables c 0 (free p (settled q.body))) [] _ i)))
+      (λ v. let t = variables-in c 0 (free p (settled q.body)) r s v in
+      let used = subst (IsIn t.0) n.settles t.1 in
+      at-home p all home size _ t.0 0 r s t.2.spot t.2.symbol (in-variables c 0 t.0 _ (in-operands_end (free p q.body) q.params q.captured t.0
+      (⊎_elim (λ j. inr j) (λ j. inl (j, tested-in (free p q.body) t.0 used)) (n.names t.0 used)))))
+      (λ v. absurd v)
+      (in-cases (variables c 0 (free p (settled q.body))) [] _ i)))
     where
       pt : Point
       pt = block_point q.body ToCaller
@@ -339,8 +343,8 @@ module _ (p : AnfTree) (all : List Noted) (home : ℕ → ℕ) (size : ℕ) wher
       ending xs e = from-sub _ _ (λ r s i. ⊎_elim
           (λ o. in-left (operand_entries q) _ _ o)
           (λ v. let t = variables-in c 0 q.captured r s v in
-            in-right (operand_entries q) _ _ (at-home p all home size _ t.0 0 r s t.2.spot t.2.symbol
-            (in-variables c 0 t.0 _ (in-captured_end xs [] t.0 (inl (subst (IsIn t.0) (sym e) t.1))))))
+          in-right (operand_entries q) _ _ (at-home p all home size _ t.0 0 r s t.2.spot t.2.symbol
+          (in-variables c 0 t.0 _ (in-captured_end xs [] t.0 (inl (subst (IsIn t.0) (sym e) t.1))))))
           (in-cases (operand_entries q) (variables c 0 q.captured) _ i))
 
       captured : (q.captured ≡ []) ⊎ Entered p m q → Row (block_point q.body ToCaller) (itself_map m q.captured ++ operand_entries q)

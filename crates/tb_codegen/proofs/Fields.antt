@@ -132,24 +132,28 @@ module _ (p : AnfTree) (w : ℕ) (narrow : w ≤ 1000) (all : List Noted) (home 
   mutual
     pub block-of : (b : Block) (ws : List ℕ) → BlockOk p all home size b ws → Slots (free p b) → Arities (blocks b) → BlockGood p w narrow home size narrow_frame b
     block-of (Bind x op k) ws h s a =
-        let arms = arities-right (Bind x op k ∷ []) (blocks_in op ++ blocks k) a in
-        (h.0.small,
-        arms-of op _ h.1.0 (λ y i. s y (in-left (free_op (captured_in p) op) _ y i)) (a op (inl refl)) (arities-left (blocks_in op) (blocks k) arms),
-        block-of k ws h.1.1 (behind-bind x op k h.0.small s) (arities-right (blocks_in op) (blocks k) arms))
+        let arms = arities-right (Bind x op k ∷ []) (blocks_in op ++ blocks k) a in (
+          h.0.small,
+          arms-of op _ h.1.0 (λ y i. s y (in-left (free_op (captured_in p) op) _ y i)) (a op (inl refl)) (arities-left (blocks_in op) (blocks k) arms),
+          block-of k ws h.1.1 (behind-bind x op k h.0.small s) (arities-right (blocks_in op) (blocks k) arms),
+        )
     block-of (CloseAll xs ls k) ws h s a =
         let hx = homes-small p all home size [] xs _ h.3 in
-        let inside = in-group xs (of_lambdas (captured_in p) ls ++ free p k) hx s in
-        (hx, lambdas-good ls (λ y i. inside y (in-left (of_lambdas (captured_in p) ls) _ y i)),
-        block-of k ws h.4 (λ y i. inside y (in-right (of_lambdas (captured_in p) ls) _ y i)) a)
+        let inside = in-group xs (of_lambdas (captured_in p) ls ++ free p k) hx s in (
+          hx,
+          lambdas-good ls (λ y i. inside y (in-left (of_lambdas (captured_in p) ls) _ y i)),
+          block-of k ws h.4 (λ y i. inside y (in-right (of_lambdas (captured_in p) ls) _ y i)) a,
+        )
     block-of (Tail op) ws h s a =
         arms-of op ws h s (a op (inl refl)) (arities-right (Tail op ∷ []) (blocks_in op) a)
 
     arms-of : (op : Op) (ws : List ℕ) → ArmsOk p all home size op ws → Slots (free_op (captured_in p) op) → Arity op → Arities (blocks_in op) →
         ArmsGood p w narrow home size narrow_frame op
-    arms-of (Branch a b d) ws h s k r =
-        (atom-good a h.0 (λ y i. s y (in-left (free_of_atom a) _ y i)),
-        block-of b ws h.1.0 (λ y i. s y (in-right (free_of_atom a) _ y (in-left (free p b) _ y i))) (arities-left (blocks b) (blocks d) r),
-        block-of d ws h.1.1 (λ y i. s y (in-right (free_of_atom a) _ y (in-right (free p b) _ y i))) (arities-right (blocks b) (blocks d) r))
+    arms-of (Branch a b d) ws h s k r = (
+      atom-good a h.0 (λ y i. s y (in-left (free_of_atom a) _ y i)),
+      block-of b ws h.1.0 (λ y i. s y (in-right (free_of_atom a) _ y (in-left (free p b) _ y i))) (arities-left (blocks b) (blocks d) r),
+      block-of d ws h.1.1 (λ y i. s y (in-right (free_of_atom a) _ y (in-right (free p b) _ y i))) (arities-right (blocks b) (blocks d) r),
+    )
     arms-of (Atom a) ws h s k r = op-good (Atom a) h k s
     arms-of (Global g q) ws h s k r = op-good (Global g q) h k s
     arms-of (SetGlobal g a q) ws h s k r = op-good (SetGlobal g a q) h k s

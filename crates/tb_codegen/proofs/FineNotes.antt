@@ -121,7 +121,6 @@ begins-fine : (p : AnfTree) (m : ℕ) (ps us : List ℕ) (new : List Entry) → 
 begins-fine p m ps us new st q s i =
     ⊎_elim (λ b. subst (Fine p q) (sym b.1) b.0) (λ b. variable-fine p q s 0 b.0 b.3) (st.begins q s i)
 
-
 does-note : {i j : Instr} {n m : Note} {q r : Option Place} → Does i n q ≡ Does j m r → n ≡ m
 does-note e = cc
 
@@ -303,6 +302,7 @@ module _ (p : AnfTree) (home : ℕ → ℕ) (size : ℕ) where
 
   mutual
     unfolding code_block code_bound code_last
+
     block-marks : (b : Block) (js : Waiting) (l : ℕ) → MarksFine p (code_block c b js l)
     block-marks (Bind x op k) js l = marks-both (code_bound c op x k js l) (code_block c k js (l + labels_of op)) (arms-marks op x k js l) (block-marks k js (l + labels_of op))
     block-marks (CloseAll xs ls k) js l =

@@ -123,29 +123,37 @@ module _ (p : AnfTree) (all : List Noted) (home : ℕ → ℕ) (size : ℕ) wher
     store-into : (done : List ℕ) (y : ℕ) → HomeOk p all home size y (done ++ (us ++ ws)) →
         Into (Slot (home y)) (StandsAt (Reg 16) (Stands (Reg 16) (Variable 0 y) ∷ G done)) Same (G (done ++ y ∷ []))
         (Stands (Reg 16) (Variable 0 y) ∷ G done)
-    store-into done y h = record { into = λ q s i. ⊎_elim
-        (λ g. let v = variables-in c 0 ((done ++ y ∷ []) ++ us) q s g in ⊎_elim
+    store-into done y h = record {
+      into = λ q s i. ⊎_elim
+          (λ g. let v = variables-in c 0 ((done ++ y ∷ []) ++ us) q s g in ⊎_elim
           (λ j. ⊎_elim
-            (λ d. other v.0 (in-left done _ _ d) (in-left done us _ d) q s v.2)
-            (λ e. ⊎_elim
-              (λ r. inl (v.2.spot ∙ ap (λ z. Slot (home z)) (sym r),
-                stands_at (inl (ap (Stands (Reg 16)) (ap (Variable 0) r ∙ sym v.2.symbol)))))
-              (λ n. absurd n)
-              e)
-            (in-cases done (y ∷ []) v.0 j))
+          (λ d. other v.0 (in-left done _ _ d) (in-left done us _ d) q s v.2)
+          (λ e. ⊎_elim
+          (λ r. inl (
+            v.2.spot ∙ ap (λ z. Slot (home z)) (sym r),
+            stands_at (inl (ap (Stands (Reg 16)) (ap (Variable 0) r ∙ sym v.2.symbol))),
+          ))
+          (λ n. absurd n)
+          e)
+          (in-cases done (y ∷ []) v.0 j))
           (λ j. other v.0 (in-right done _ _ (in-left us ws _ j)) (in-right done us _ j) q s v.2)
           (in-cases (done ++ y ∷ []) us v.0 v.1))
-        (λ g. let w = waiting-in c 1 js q s g in
-          inr ((λ e. h.apart w.var (in-right done _ _ (in-right us ws _ (named w.deep w.var w.named))) (slot-same _ _ (e ∙ w.spot))),
-          (s, inr (in-right (variables c 0 (done ++ us)) _ _ g), same s)))
-        (in-cases (variables c 0 ((done ++ y ∷ []) ++ us)) _ _ i) }
+          (λ g. let w = waiting-in c 1 js q s g in
+          inr (
+            (λ e. h.apart w.var (in-right done _ _ (in-right us ws _ (named w.deep w.var w.named))) (slot-same _ _ (e ∙ w.spot))),
+            (s, inr (in-right (variables c 0 (done ++ us)) _ _ g), same s),
+          ))
+          (in-cases (variables c 0 ((done ++ y ∷ []) ++ us)) _ _ i);
+    }
       where
         other : (z : ℕ) → IsIn z (done ++ (us ++ ws)) → IsIn z (done ++ us) → (q : Spot) (s : Symbol) → Home c 0 z q s →
             ((q ≡ Slot (home y)) × StandsAt (Reg 16) (Stands (Reg 16) (Variable 0 y) ∷ G done) s) ⊎
             ((Slot (home y) ≡ q → ⊥) × ((o : Symbol) × IsIn (Stands q o) (Stands (Reg 16) (Variable 0 y) ∷ G done) × Same o s))
         other z i j q s v =
-            inr ((λ e. h.apart z i (slot-same _ _ (e ∙ v.spot))),
-            (s, inr (at-home p all home size _ z 0 q s v.spot v.symbol (g-in done z j)), same s))
+            inr (
+              (λ e. h.apart z i (slot-same _ _ (e ∙ v.spot))),
+              (s, inr (at-home p all home size _ z 0 q s v.spot v.symbol (g-in done z j)), same s),
+            )
 
     -- the note where the words of the lambdas ms are still to be written, and those of dms are
     abbrev words_note : List ℕ → List ℕ → Note
@@ -153,14 +161,18 @@ module _ (p : AnfTree) (all : List Noted) (home : ℕ → ℕ) (size : ℕ) wher
         cond (has_words ms) (here c (AtAll (length xs) (counts c dms ++ zeros ms) xs ls k js) (G xs)) (block_note c k js)
 
     block-from : From (Under None (free p (settled k))) (block_map c (settled k) js) (G xs)
-    block-from = record { from = λ q s i. ⊎_elim
-        (λ g. let v = variables-in c 0 (free p (settled k)) q s g in
-          let j = bound-stands v.0 (in-right (of_lambdas (captured_in p) ls) _ _ (subst (IsIn v.0) settled-free v.1)) in
-          (Variable 0 v.0, at-home p all home size _ v.0 0 q (Variable 0 v.0) v.2.spot refl (g-in xs v.0 j),
-          subst (Under None (free p (settled k)) (Variable 0 v.0)) (sym v.2.symbol) (u_own v.0 v.1)))
-        (λ g. let w = waiting-in c 1 js q s g in
+    block-from = record {
+      from = λ q s i. ⊎_elim
+          (λ g. let v = variables-in c 0 (free p (settled k)) q s g in
+          let j = bound-stands v.0 (in-right (of_lambdas (captured_in p) ls) _ _ (subst (IsIn v.0) settled-free v.1)) in (
+            Variable 0 v.0,
+            at-home p all home size _ v.0 0 q (Variable 0 v.0) v.2.spot refl (g-in xs v.0 j),
+            subst (Under None (free p (settled k)) (Variable 0 v.0)) (sym v.2.symbol) (u_own v.0 v.1),
+          ))
+          (λ g. let w = waiting-in c 1 js q s g in
           (s, in-right (variables c 0 (xs ++ us)) _ _ g, same-deep w.deep w.var s w.symbol))
-        (in-cases (variables c 0 (free p (settled k))) _ _ i) }
+          (in-cases (variables c 0 (free p (settled k))) _ _ i);
+    }
       where
         same-deep : (e y : ℕ) (t : Symbol) → t ≡ Variable (down 1 e) y → Under None (free p (settled k)) t t
         same-deep e y t h =
@@ -362,8 +374,10 @@ module _ (p : AnfTree) (all : List Noted) (home : ℕ → ℕ) (size : ℕ) wher
       chain-on p all rest (writes c all_xs all_ls k js [] all_xs all_ls) _ _ _ _
       (c_does
       (ok_first {x = x} (lit< tt) entered (ap length (ap captured_by entered.there)) (target w.0.1.mark) apart (omega (arith, long))
-      (record { stand_or = λ y i. stand y (bound-or all_xs all_ls k js ws long apart named eq em y
-          (in-left (of_lambdas (captured_in p) all_ls) _ y (subst (IsIn y) (catches-same all_ls) i))) })
+      (record {
+        stand_or = λ y i. stand y (bound-or all_xs all_ls k js ws long apart named eq em y
+            (in-left (of_lambdas (captured_in p) all_ls) _ y (subst (IsIn y) (catches-same all_ls) i)));
+      })
       first-into not_yet)
       (c_does
       (ok_stored (Variable 0 x) h.0.small (inl refl) (store-into all_xs all_ls k js ws long apart named eq em [] x h.0) long
@@ -381,17 +395,24 @@ module _ (p : AnfTree) (all : List Noted) (home : ℕ → ℕ) (size : ℕ) wher
 
       first-into : Into (Reg 16) (IsThat (Variable 0 x)) (Kept (x ∷ xs) (free p (CloseAll (x ∷ xs) (m ∷ ls) k)))
           (Stands (Reg 16) (Variable 0 x) ∷ group_map c (x ∷ xs) (m ∷ ls) k js []) (block_map c (CloseAll (x ∷ xs) (m ∷ ls) k) js)
-      first-into = record { into = λ q s i. ⊎_elim
-          (λ e. inl (entry-spot (Reg 16) q _ s e, subst (IsThat (Variable 0 x)) (sym (entry-symbol (Reg 16) q _ s e)) is_that))
-          (λ g. inr (
-          (λ e. (block-slots c (CloseAll (x ∷ xs) (m ∷ ls) k) js).none 16 s
-            (subst (λ r. IsIn (Stands r s) (block_map c (CloseAll (x ∷ xs) (m ∷ ls) k) js)) (sym e) g)),
-          (s, g, ⊎_elim
-            (λ v. let t = variables-in c 0 (free p (CloseAll (x ∷ xs) (m ∷ ls) k)) q s v in
-              subst (λ r. Kept (x ∷ xs) (free p (CloseAll (x ∷ xs) (m ∷ ls) k)) r r) (sym t.2.symbol)
-              (k_var t.0 (λ j. true≢false (sym (tested-in (x ∷ xs) t.0 j) ∙ kept-apart (x ∷ xs) _ t.0 t.1)) t.1))
-            (λ v. let t = waiting-in c 1 js q s v in
-              subst (λ r. Kept (x ∷ xs) (free p (CloseAll (x ∷ xs) (m ∷ ls) k)) r r)
-              (sym (t.symbol ∙ ap (λ n. Variable n t.var) (down-more 0 t.deep))) (k_deep (down 0 t.deep) t.var))
-            (in-cases (variables c 0 (free p (CloseAll (x ∷ xs) (m ∷ ls) k))) _ _ g))))
-          i }
+      first-into = record {
+        into = λ q s i. ⊎_elim
+            (λ e. inl (entry-spot (Reg 16) q _ s e, subst (IsThat (Variable 0 x)) (sym (entry-symbol (Reg 16) q _ s e)) is_that))
+            (λ g. inr (
+              (λ e. (block-slots c (CloseAll (x ∷ xs) (m ∷ ls) k) js).none 16 s
+                  (subst (λ r. IsIn (Stands r s) (block_map c (CloseAll (x ∷ xs) (m ∷ ls) k) js)) (sym e) g)),
+              (
+                s,
+                g,
+                ⊎_elim
+                    (λ v. let t = variables-in c 0 (free p (CloseAll (x ∷ xs) (m ∷ ls) k)) q s v in
+                    subst (λ r. Kept (x ∷ xs) (free p (CloseAll (x ∷ xs) (m ∷ ls) k)) r r) (sym t.2.symbol)
+                    (k_var t.0 (λ j. true≢false (sym (tested-in (x ∷ xs) t.0 j) ∙ kept-apart (x ∷ xs) _ t.0 t.1)) t.1))
+                    (λ v. let t = waiting-in c 1 js q s v in
+                    subst (λ r. Kept (x ∷ xs) (free p (CloseAll (x ∷ xs) (m ∷ ls) k)) r r)
+                    (sym (t.symbol ∙ ap (λ n. Variable n t.var) (down-more 0 t.deep))) (k_deep (down 0 t.deep) t.var))
+                    (in-cases (variables c 0 (free p (CloseAll (x ∷ xs) (m ∷ ls) k))) _ _ g),
+              ),
+            ))
+            i;
+      }

@@ -76,7 +76,6 @@ length_zeros (l ∷ ls) = ap suc (length_zeros ls)
 is_not_in : (xs : List ℕ) (x : ℕ) → (IsIn x xs → ⊥) → is_in xs x ≡ false
 is_not_in xs x ne = ⊎_elim (λ e. absurd (ne (in-tested xs x e))) (λ e. e) (cases_Bool (is_in xs x))
 
-
 -- the fill of a procedure of the group, and of one before it
 fill_in : (l0 c i j : ℕ) (ns : List ℕ) → slice_get ns i ≡ Some j → fill_of (OpenAll l0 c ns) (l0 + i) ≡ Part j
 fill_in l0 c i j ns e =
@@ -159,9 +158,9 @@ module _ (p : AnfTree) (notes : List Note) where
         (m, (w, subst (Rel p notes w (target p notes limit y top)) (sym e) rel), ⊎_elim inl (λ d. let a = d.0 in let b = d.1 in inr (inl (omega arith))) fall)
     onward x y {w = w} {mid = mid} {c = c} {ns = ns} {xs = xs} {ls = ls} {k = k} {gs = gs} {rs = rs} {slots = slots} l0 q s m (all_done {new = new} se made full from) n e fall count facts jr h o f mem len =
         let there : run (step_of p notes) (m + 1) s ≡ source p notes limit y (Eval (InBlock k) (gather (free p k) q)) gs =
-            run-add (step_of p notes) m 1 s ∙ ap (run (step_of p notes) 1) e in
+        run-add (step_of p notes) m 1 s ∙ ap (run (step_of p notes) 1) e in
         let hh = holds-from p y.st y.st w w (λ k i. i) (q ∷ rs) (gather (free p (settled k)) q ∷ rs) y.regs slots _ new mid h from
-            (under p y.st y.st None (free p (settled k)) [] q (gather (free p (settled k)) q) rs (λ y i. lookup-gather (free p (settled k)) q y i)) in
+        (under p y.st y.st None (free p (settled k)) [] q (gather (free p (settled k)) q) rs (λ y i. lookup-gather (free p (settled k)) q y i)) in
         lands_block p notes limit y k q s (m + 1) (limit - x.pc) se there (omega arith) n jr hh o f
         (mem_close w l0 c ns xs ls q y.heap y.st y.globals y.ahead y.input y.cin y.met mem facts full (made ∙ count)) len
 
@@ -188,7 +187,7 @@ module _ (p : AnfTree) (notes : List Note) where
           let i = Clo m (bind_all (captured_in p m) us Empty) in
           let z = Lk procedure_tag (length x.heap) (l0 + made) ∷ w in
           let mem1 : Memory p notes w (OpenAll l0 made ns) x.heap x.st x.globals x.ahead x.input x.cin x.met =
-              subst (λ o. Memory p notes w o x.heap x.st x.globals x.ahead x.input x.cin x.met) (opens_at l0 made ns xs k q ls js facts.start) mem in
+          subst (λ o. Memory p notes w o x.heap x.st x.globals x.ahead x.input x.cin x.met) (opens_at l0 made ns xs k q ls js facts.start) mem in
           let size : n ≡ length us = count ∙ sym (v.2 ∙ ap length cs) in
           let inside = get-within ns made 0 an in
           ⊎_elim
@@ -200,9 +199,9 @@ module _ (p : AnfTree) (notes : List Note) where
           let room : mem1.stores.total + (closure_count (Some (W.Header procedure_kind n)) + data_size (Some (W.Header procedure_kind n))) + unmade (OpenAll l0 (suc made) ns) ≤ made_of_store x.st = omega arith in
           let part = fill_in l0 (suc made) made 0 ns an in
           let stores2 = stores_new p notes w (OpenAll l0 made ns) (OpenAll l0 (suc made) ns) (globals_words p notes) x.heap (new_procedure n l) x.st x.st (l0 + made) i (W.Header procedure_kind n) mem1.stores
-              (at_end x.heap (new_procedure n l) _ refl) (long_procedure p notes n l) v.1 (λ t a e. let b = mem1.stores.before t a (l0 + made) e in omega arith) (λ m j e. e)
-              (subst (λ q. ORel p notes z (x.heap ++ new_procedure n l) q (length x.heap) i) (sym part) (procedure_made p notes z x.heap n l m us note size v.2))
-              (λ t a m k. refl) (λ t a m k. let b = mem1.stores.before t a m k in omega arith) (omega arith) room in
+          (at_end x.heap (new_procedure n l) _ refl) (long_procedure p notes n l) v.1 (λ t a e. let b = mem1.stores.before t a (l0 + made) e in omega arith) (λ m j e. e)
+          (subst (λ q. ORel p notes z (x.heap ++ new_procedure n l) q (length x.heap) i) (sym part) (procedure_made p notes z x.heap n l m us note size v.2))
+          (λ t a m k. refl) (λ t a m k. let b = mem1.stores.before t a m k in omega arith) (omega arith) room in
           let mem2 : Memory p notes z (OpenAll l0 (suc made) ns) (x.heap ++ new_procedure n l) x.st x.globals x.ahead x.input x.cin x.met = record {
             stores = stores2;
             held = p_agree w z (λ k i. inr i) x.heap (x.heap ++ new_procedure n l) 0 (length x.globals) (length x.globals) x.globals (omega arith) (agree_left x.heap (new_procedure n l) 0 (length x.globals)) mem1.held;
@@ -212,7 +211,7 @@ module _ (p : AnfTree) (notes : List Note) where
             statics = λ n s e. let q = mem1.statics n s e in (q.0, q.1, inr q.2);
           } in
           let hh = holds-into p x.st x.st w z (λ k i. inr i) (q ∷ rs) (q ∷ rs) x.regs slots d _ _ mid old u (omega arith) h into
-              (name_put x.st z u q rs y (At (l0 + made)) (facts.named made y ax) (w_at (inl refl))) (same-means p x.st (q ∷ rs)) in
+          (name_put x.st z u q rs y (At (l0 + made)) (facts.named made y ax) (w_at (inl refl))) (same-means p x.st (q ∷ rs)) in
           let on2 : x.pc < x.pc + 1 = omega arith in
           rw (le-ltb (length x.gap) (length (new_procedure n l)) ge)
           (onward x yy l0 q _ 0 on next refl (inr (on2, within)) long facts jr hh o (fs-more p notes w z (λ k i. inr i) _ _ f) mem2 (length-set x.regs d u ∙ len)))
@@ -244,7 +243,7 @@ module _ (p : AnfTree) (notes : List Note) where
           let rel = filled_more p notes limit c w x.heap t ad (l0 + i) m j us u v (fill_of (OpenAll l0 made (slice_set ns i (suc j))) (l0 + i)) hf g uv (ap (λ q. filled q (length us)) part) in
           let same_long = length-set ns i (suc j) in
           let mem2 = mem_fill p notes limit c w (OpenAll l0 made ns) (OpenAll l0 made (slice_set ns i (suc j))) x.heap x.st x.globals x.ahead x.input x.cin x.met t ad (l0 + i) (ad + 2 + j) u v (Clo m (bind_all (captured_in p m) us Empty)) mem lk vs.1 hf.is_tag pf.0 uv (omega arith)
-              (in_procedure p notes limit c x.heap ad (length us) j hf.head lt) rel (λ n ne. other l0 i n j ns ne) (λ n b. b) (omega arith) in
+          (in_procedure p notes limit c x.heap ad (length us) j hf.head lt) rel (λ n ne. other l0 i n j ns ne) (λ n b. b) (omega arith) in
           let on2 : x.pc < x.pc + 1 = omega arith in
           rw (ea, cap, pf.0, eb) (onward x (record x { pc = x.pc + 1; heap = slice_set x.heap (ad + 2 + j) u }) l0 q _ 0 on next refl (inr (on2, within)) long facts jr h o f mem2 len)
         where
@@ -268,7 +267,7 @@ module _ (p : AnfTree) (notes : List Note) where
           let hb = h.holds (Reg b) (Variable 0 y) ib in
           let va : ha.value ≡ At (l0 + i) = cc (named_value x.st q rs z ha.value ha.means, facts.named i z ax) in
           let mem1 : Memory p notes w (OpenAll l0 made ns) x.heap x.st x.globals x.ahead x.input x.cin x.met =
-              subst (λ o. Memory p notes w o x.heap x.st x.globals x.ahead x.input x.cin x.met) (opens_at l0 made ns xs k q ls js facts.start) mem in
+          subst (λ o. Memory p notes w o x.heap x.st x.globals x.ahead x.input x.cin x.met) (opens_at l0 made ns xs k q ls js facts.start) mem in
           let hh = holds-from p x.st x.st w w (λ k i. i) (q ∷ rs) (q ∷ rs) x.regs slots Same mid old h from (same-means p x.st (q ∷ rs)) in
           word_at x a b i l0 q ha.word hb.word hb.value (subst (λ v. WRel w ha.word v) va ha.rel) ha.here hb.here hb.rel (named_value x.st q rs y hb.value hb.means) al an ac long on next facts jr hh o f mem1 len within
 
@@ -284,9 +283,9 @@ module _ (p : AnfTree) (notes : List Note) where
           let v = h.holds (Reg a) z i in
           let few : s < length slots = omega arith in
           let hh = holds-slot p x.st x.st w (q ∷ rs) (q ∷ rs) x.regs slots s _ _ mid old v.word few h into
-              (moved p w (q ∷ rs) x.regs slots old (Reg a) v.word x.st h v.here) (same-means p x.st (q ∷ rs)) in
+          (moved p w (q ∷ rs) x.regs slots old (Reg a) v.word x.st h v.here) (same-means p x.st (q ∷ rs)) in
           let mem1 : Memory p notes w (OpenAll l0 made ns) x.heap x.st x.globals x.ahead x.input x.cin x.met =
-              subst (λ o. Memory p notes w o x.heap x.st x.globals x.ahead x.input x.cin x.met) (opens_at l0 made ns xs k q ls js facts.start) mem in
+          subst (λ o. Memory p notes w o x.heap x.st x.globals x.ahead x.input x.cin x.met) (opens_at l0 made ns xs k q ls js facts.start) mem in
           let on2 : x.pc < x.pc + 1 = omega arith in
           rw (lt-ltb s (length slots) few, v.here)
           (onward x (record x { pc = x.pc + 1 }) l0 q _ 0 on next refl (inr (on2, within)) long facts jr hh (o_here (length-set slots s v.word ∙ e)) f mem1 len)
@@ -326,11 +325,16 @@ module _ (p : AnfTree) (notes : List Note) where
                 (lookup-same x0 (At (length st)) (bind_located zs (suc (length st)) (gather F r)));
             named = λ i x e. located xs (length st) (gather F r) i x ap_xs e;
             values = λ i m e.
-                let vs = values_of q (captured_in p m) (λ y i2. found y (in_catches ls i m y e i2)) in
-                (vs.values, at_next st (closures (captured_in p) ls q) i (Clo m (gather (captured_in p m) q)) (closure_at (captured_in p) ls q i m e) ∙ ap (λ r. Some (Clo m r)) vs.same, vs.long,
-                record { caps = λ j y e2.
-                    let v = found y (in_catches ls i m y e (get-in (captured_in p m) j y e2)) in
-                    (v.0, vs.each j y e2 ∙ v.1, v.1) });
+                let vs = values_of q (captured_in p m) (λ y i2. found y (in_catches ls i m y e i2)) in (
+                  vs.values,
+                  at_next st (closures (captured_in p) ls q) i (Clo m (gather (captured_in p m) q)) (closure_at (captured_in p) ls q i m e) ∙ ap (λ r. Some (Clo m r)) vs.same,
+                  vs.long,
+                  record {
+                    caps = λ j y e2.
+                        let v = found y (in_catches ls i m y e (get-in (captured_in p m) j y e2)) in
+                        (v.0, vs.each j y e2 ∙ v.1, v.1);
+                  },
+                );
           }
         where
           found : (y : ℕ) → IsIn y (catches p ls) → (v : Value) × (lookup (bind_located xs (length st) (gather (free p (CloseAll xs ls k)) r)) y ≡ Some v)
@@ -384,10 +388,10 @@ module _ (p : AnfTree) (notes : List Note) where
           let part : fill_of (OpenAll l0 1 ns) l0 ≡ Part 0 = subst (λ n. fill_of (OpenAll l0 1 ns) n ≡ Part 0) zero (fill_in l0 1 0 0 ns refl) in
           let in_st = λ (t a m : ℕ) (k : IsIn (Lk t a m) w). linked_below w x.heap x.st t a m mem.stores k in
           let stores2 = stores_new p notes w Closed (OpenAll l0 1 ns) (globals_words p notes) x.heap (new_procedure n l) x.st st2 l0 i (W.Header procedure_kind n) mem.stores
-              (at_end x.heap (new_procedure n l) _ refl) (long_procedure p notes n l) there (λ t a e. let b = linked_below w x.heap x.st t a l0 mem.stores e in omega arith)
-              (λ n j e. get-left x.st (closures (captured_in p) (m ∷ ls) q) n j e)
-              (subst (λ q. ORel p notes z (x.heap ++ new_procedure n l) q (length x.heap) i) (sym part) (procedure_made p notes z x.heap n l m us note size v.2))
-              (λ t a n k. fill_before l0 1 n ns (linked_below w x.heap x.st t a n mem.stores k)) (λ t a n k. let b = linked_below w x.heap x.st t a n mem.stores k in omega arith) (omega arith) room in
+          (at_end x.heap (new_procedure n l) _ refl) (long_procedure p notes n l) there (λ t a e. let b = linked_below w x.heap x.st t a l0 mem.stores e in omega arith)
+          (λ n j e. get-left x.st (closures (captured_in p) (m ∷ ls) q) n j e)
+          (subst (λ q. ORel p notes z (x.heap ++ new_procedure n l) q (length x.heap) i) (sym part) (procedure_made p notes z x.heap n l m us note size v.2))
+          (λ t a n k. fill_before l0 1 n ns (linked_below w x.heap x.st t a n mem.stores k)) (λ t a n k. let b = linked_below w x.heap x.st t a n mem.stores k in omega arith) (omega arith) room in
           let mem2 : Memory p notes z (OpenAll l0 1 ns) (x.heap ++ new_procedure n l) st2 x.globals x.ahead x.input x.cin x.met = record {
             stores = stores2;
             held = p_agree w z (λ k i. inr i) x.heap (x.heap ++ new_procedure n l) 0 (length x.globals) (length x.globals) x.globals (omega arith) (agree_left x.heap (new_procedure n l) 0 (length x.globals)) mem.held;
@@ -397,8 +401,8 @@ module _ (p : AnfTree) (notes : List Note) where
             statics = λ n s e. let q = mem.statics n s e in (q.0, q.1, inr q.2);
           } in
           let hh = holds-into p x.st st2 w z (λ k i. inr i) (r ∷ rs) (q ∷ rs) x.regs slots d _ _ mid old u (omega arith) h into
-              (name_put st2 z u q rs y (At l0) facts.start (w_at (inl refl)))
-              (kept x.st st2 (y ∷ xs) F r q rs (λ v ne i. not_located (y ∷ xs) l0 (gather F r) v ne ∙ lookup-gather F r v i)) in
+          (name_put st2 z u q rs y (At l0) facts.start (w_at (inl refl)))
+          (kept x.st st2 (y ∷ xs) F r q rs (λ v ne i. not_located (y ∷ xs) l0 (gather F r) v ne ∙ lookup-gather F r v i)) in
           let some : 0 < 1 = omega arith in
           rw (le-ltb (length x.gap) (length (new_procedure n l)) ge)
           (onward x yy l0 q _ 1 on next refl (inl some) (ap suc long) facts jr hh o (fs-more p notes w z (λ k i. inr i) _ _ f) mem2 (length-set x.regs d u ∙ len)))

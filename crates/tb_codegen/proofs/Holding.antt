@@ -27,9 +27,11 @@ w-more w z g u v w_end = w_end
 w-more w z g u v (w_at i) = w_at (g _ i)
 
 pub saved-more : (w z : World) → Grows w z → (rs : List Env) (slots : List Word) (map : List Entry) → Saved w rs slots map → Saved z rs slots map
-saved-more w z g rs slots map h = record { saved = λ q s i. ⊎_elim inl (λ k.
-    let a = k.2 in
-    inr (k.0, k.1, record { value = a.value; word = a.word; means = a.means; here = a.here; rel = w-more w z g _ _ a.rel })) (h.saved q s i) }
+saved-more w z g rs slots map h = record {
+  saved = λ q s i. ⊎_elim inl (λ k.
+      let a = k.2 in
+      inr (k.0, k.1, record { value = a.value; word = a.word; means = a.means; here = a.here; rel = w-more w z g _ _ a.rel })) (h.saved q s i);
+}
 
 pub fs-more : (p : AnfTree) (notes : List Note) (w z : World) → Grows w z → (fs : AnfFrames) (ms : List MacFrame) → FsRel p notes w fs ms → FsRel p notes z fs ms
 fs-more p notes w z g fs ms f_none = f_none
@@ -94,10 +96,12 @@ module _ (p : AnfTree) (st st2 : List Item) where
   pub holds-from : (w z : World) → Grows w z → (rs qs : List Env) (regs slots : List Word) (C : Symbol → Symbol → Type 0) (new old : List Entry) →
       Holds p st w rs regs slots old → From C new old → Changes C rs qs → Holds p st2 z qs regs slots new
   holds-from w z g rs qs regs slots C new old h n fc =
-      record { holds = λ q s i.
-          let o = n.from q s i in
-          let has = h.holds q o.0 o.1 in
-          record { value = has.value; word = has.word; means = fc o.0 s has.value o.2 has.means; here = has.here; rel = w-more w z g _ _ has.rel } }
+      record {
+        holds = λ q s i.
+            let o = n.from q s i in
+            let has = h.holds q o.0 o.1 in
+            record { value = has.value; word = has.word; means = fc o.0 s has.value o.2 has.means; here = has.here; rel = w-more w z g _ _ has.rel };
+      }
 
   -- the changes: to the operation of a block, and from a value to a block
   abbrev pub pushed : Option (List ℕ) → Env → List Env → List Env
@@ -149,12 +153,16 @@ new-put p st w u x xs v r rs uv s (is_new i) = (v, m_name (lookup-gather xs (Env
 
 pub holds-none : (p : AnfTree) (st : List Item) (w : World) (rs : List Env) (regs slots : List Word) (map : List Entry) → NoSlots map →
     Holds p st w rs regs slots map → Holds p st w rs regs [] map
-holds-none p st w rs regs slots map ns h = record { holds = λ q s i.
-    let k = h.holds q s i in
-    record { value = k.value; word = k.word; means = k.means; here = read_register q regs slots k.word (λ j e. ns.no_slots j s (subst (λ q. IsIn (Stands q s) map) e i)) k.here; rel = k.rel } }
+holds-none p st w rs regs slots map ns h = record {
+  holds = λ q s i.
+      let k = h.holds q s i in
+      record { value = k.value; word = k.word; means = k.means; here = read_register q regs slots k.word (λ j e. ns.no_slots j s (subst (λ q. IsIn (Stands q s) map) e i)) k.here; rel = k.rel };
+}
 
 pub holds-any : (p : AnfTree) (st : List Item) (w : World) (rs : List Env) (regs slots : List Word) (map : List Entry) →
     Holds p st w rs regs [] map → Holds p st w rs regs slots map
-holds-any p st w rs regs slots map h = record { holds = λ q s i.
-    let k = h.holds q s i in
-    record { value = k.value; word = k.word; means = k.means; here = read_none q regs slots k.word k.here; rel = k.rel } }
+holds-any p st w rs regs slots map h = record {
+  holds = λ q s i.
+      let k = h.holds q s i in
+      record { value = k.value; word = k.word; means = k.means; here = read_none q regs slots k.word k.here; rel = k.rel };
+}

@@ -113,7 +113,7 @@ module _ (p : AnfTree) (notes : List Note) (c : Assembled) (fo : Follows p notes
       let rd = below (length p.statics) ++ (control_locations d.control ++ (frames_locations (language p).values d.frames ++ values_locations d.globals)) in
       let g : List Item → Graph = λ st. with_roots (graph p notes c fo (record k { store = st })) rd in
       let le : total (λ l. of_item size (slice_get k.store l)) (graph p notes c fo k) ≤ total (λ l. of_item size (slice_get k.store l)) (g k.store) =
-          total-more (λ l. of_item size (slice_get k.store l)) (graph p notes c fo k) rd (closed_graph p k) (λ l i. root (roots_onto k d h l i)) in
+      total-more (λ l. of_item size (slice_get k.store l)) (graph p notes c fo k) rd (closed_graph p k) (λ l i. root (roots_onto k d h l i)) in
       subst (λ st. total (λ l. of_item size (slice_get k.store l)) (graph p notes c fo k) ≤ total (λ l. of_item size (slice_get st l)) (g st)) (sym h.store) le
     where
       roots_onto : (k d : AnfConfig) → Onto p notes k d → (l : ℕ) → IsIn l (below (length p.statics) ++ (control_locations k.control ++ (frames_locations (language p).values k.frames ++ values_locations k.globals))) →
@@ -122,7 +122,7 @@ module _ (p : AnfTree) (notes : List Note) (c : Assembled) (fo : Follows p notes
           let fk = frames_locations (language p).values k.frames in
           let fd = frames_locations (language p).values d.frames in
           let into : IsIn l (control_locations d.control ++ fd) → IsIn l (below (length p.statics) ++ (control_locations d.control ++ (fd ++ values_locations d.globals))) =
-              λ j. in-right (below (length p.statics)) _ l (⊎_elim (in-left (control_locations d.control) _ l) (λ j. in-right (control_locations d.control) _ l (in-left fd _ l j)) (in-cases (control_locations d.control) fd l j)) in
+          λ j. in-right (below (length p.statics)) _ l (⊎_elim (in-left (control_locations d.control) _ l) (λ j. in-right (control_locations d.control) _ l (in-left fd _ l j)) (in-cases (control_locations d.control) fd l j)) in
           ⊎_elim (in-left (below (length p.statics)) _ l)
           (λ i. ⊎_elim (λ j. into (h.roots l (in-left (control_locations k.control) fk l j)))
           (λ i. ⊎_elim (λ j. into (h.roots l (in-right (control_locations k.control) fk l j)))

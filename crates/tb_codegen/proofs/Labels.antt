@@ -74,27 +74,28 @@ joined lo mid hi xs ys a b f g = record {
 branched : (l m hi : ℕ) (xs ys zs : List ℕ) → l + 2 ≤ m → m ≤ hi → Within (l + 2) m xs → Within m hi ys → Within l (l + 1) zs →
     Within l hi (xs ++ (suc l ∷ (ys ++ zs)))
 branched l m hi xs ys zs a b f g h = record {
-  apart = apart-join xs (suc l ∷ (ys ++ zs)) f.apart
-    ((λ i. ⊎_elim (λ j. let k = g.low (suc l) j in omega (arith, k, a)) (λ j. let k = h.high (suc l) j in omega (arith, k)) (in-cases ys zs (suc l) i)),
-    apart-join ys zs g.apart h.apart (λ n i j. let x = g.low n i in let y = h.high n j in omega (arith, x, y, a)))
-    (λ n i j. ⊎_elim
+  apart = apart-join xs (suc l ∷ (ys ++ zs)) f.apart (
+    (λ i. ⊎_elim (λ j. let k = g.low (suc l) j in omega (arith, k, a)) (λ j. let k = h.high (suc l) j in omega (arith, k)) (in-cases ys zs (suc l) i)),
+    apart-join ys zs g.apart h.apart (λ n i j. let x = g.low n i in let y = h.high n j in omega (arith, x, y, a)),
+  )
+      (λ n i j. ⊎_elim
       (λ e. let x = f.low n i in omega (arith, x, e))
       (λ k. ⊎_elim (λ u. let x = f.high n i in let y = g.low n u in omega (arith, x, y)) (λ u. let x = f.low n i in let y = h.high n u in omega (arith, x, y)) (in-cases ys zs n k))
       j);
   low = λ n i. ⊎_elim
-    (λ j. let x = f.low n j in omega (arith, x))
-    (λ j. ⊎_elim
+      (λ j. let x = f.low n j in omega (arith, x))
+      (λ j. ⊎_elim
       (λ e. omega (arith, e))
       (λ k. ⊎_elim (λ u. let x = g.low n u in omega (arith, x, a)) (λ u. h.low n u) (in-cases ys zs n k))
       j)
-    (in-cases xs (suc l ∷ (ys ++ zs)) n i);
+      (in-cases xs (suc l ∷ (ys ++ zs)) n i);
   high = λ n i. ⊎_elim
-    (λ j. let x = f.high n j in omega (arith, x, b))
-    (λ j. ⊎_elim
+      (λ j. let x = f.high n j in omega (arith, x, b))
+      (λ j. ⊎_elim
       (λ e. omega (arith, e, a, b))
       (λ k. ⊎_elim (λ u. g.high n u) (λ u. let x = h.high n u in omega (arith, x, a, b)) (in-cases ys zs n k))
       j)
-    (in-cases xs (suc l ∷ (ys ++ zs)) n i);
+      (in-cases xs (suc l ∷ (ys ++ zs)) n i);
 }
 
 -- items without labels
@@ -232,6 +233,7 @@ module _ (p : AnfTree) (home : ℕ → ℕ) (size : ℕ) where
 
   mutual
     unfolding code_block code_bound code_last
+
     block-within : (b : Block) (js : Waiting) (l : ℕ) → Within l (l + labels_in b) (marks (code_block c b js l))
     block-within (Bind x op k) js l =
         subst (Within l (l + (labels_of op + labels_in k))) (sym (marks-append (code_bound c op x k js l) (code_block c k js (l + labels_of op))))
@@ -318,24 +320,26 @@ lambdas-both p n (q ∷ qs) l le =
     subst (Both n (n + suc (length qs)) l (l + (labels_in q.body + labels_within qs)))
     (sym (marks-append (code_lambda p n q l) (code_lambdas p (suc n) qs (l + labels_in q.body)) ∙ ap (λ ls. ls ++ rest) (lambda-marks p n q l)))
     (record {
-      once = ((λ i. ⊎_elim
-          (λ j. let x = here.low n j in omega (arith, x, le))
-          (λ j. ⊎_elim (λ k. let x = k.0 in omega (arith, x)) (λ k. let x = k.0 in omega (arith, x, le)) (more.either n j))
-          (in-cases bs rest n i)),
+      once = (
+        (λ i. ⊎_elim
+            (λ j. let x = here.low n j in omega (arith, x, le))
+            (λ j. ⊎_elim (λ k. let x = k.0 in omega (arith, x)) (λ k. let x = k.0 in omega (arith, x, le)) (more.either n j))
+            (in-cases bs rest n i)),
         apart-join bs rest here.apart more.once (λ m i j. ⊎_elim
-          (λ k. let x = here.low m i in let y = k.1 in omega (arith, x, y, le))
-          (λ k. let x = here.high m i in let y = k.0 in omega (arith, x, y))
-          (more.either m j)));
+            (λ k. let x = here.low m i in let y = k.1 in omega (arith, x, y, le))
+            (λ k. let x = here.high m i in let y = k.0 in omega (arith, x, y))
+            (more.either m j)),
+      );
       either = λ m i. ⊎_elim
-        (λ e. inl (omega (arith, e), omega (arith, e)))
-        (λ j. ⊎_elim
+          (λ e. inl (omega (arith, e), omega (arith, e)))
+          (λ j. ⊎_elim
           (λ k. let x = here.low m k in let y = here.high m k in inr (omega (arith, x), omega (arith, y)))
           (λ k. ⊎_elim
-            (λ r. let x = r.0 in let y = r.1 in inl (omega (arith, x), omega (arith, y)))
-            (λ r. let x = r.0 in let y = r.1 in inr (omega (arith, x), omega (arith, y)))
-            (more.either m k))
+          (λ r. let x = r.0 in let y = r.1 in inl (omega (arith, x), omega (arith, y)))
+          (λ r. let x = r.0 in let y = r.1 in inr (omega (arith, x), omega (arith, y)))
+          (more.either m k))
           (in-cases bs rest m j))
-        i;
+          i;
     })
 
 -- the labels of a program are apart
@@ -348,6 +352,6 @@ labels-apart p =
     let g = lambdas-both p 0 (lambdas_of p) (n + labels_within (forms_of p)) (omega arith) in
     subst IsApart (sym (labels-marks (noted_items p) ∙ marks-append forms _))
     (apart-join (marks forms) (marks lambdas) f.apart g.once (λ l i j. ⊎_elim
-      (λ k. let x = f.low l i in let y = k.1 in omega (arith, x, y))
-      (λ k. let x = f.high l i in let y = k.0 in omega (arith, x, y))
-      (g.either l j)))
+    (λ k. let x = f.low l i in let y = k.1 in omega (arith, x, y))
+    (λ k. let x = f.high l i in let y = k.0 in omega (arith, x, y))
+    (g.either l j)))

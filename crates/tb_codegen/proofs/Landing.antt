@@ -34,8 +34,8 @@ module _ (p : AnfTree) (notes : List Note) (limit : ℕ) where
       let t = settle b h r y gs in
       let F = free p (CloseAll [] [] b) in
       let sub : gather (free p b) (gather F (gather F r)) ≡ gather (free p b) r =
-          gather-sub (free p b) F (gather F r) (λ z i. subst (λ xs. IsIn z xs) (sym (free_more b)) i)
-          ∙ gather-sub (free p b) F r (λ z i. subst (λ xs. IsIn z xs) (sym (free_more b)) i) in
+      gather-sub (free p b) F (gather F r) (λ z i. subst (λ xs. IsIn z xs) (sym (free_more b)) i)
+      ∙ gather-sub (free p b) F r (λ z i. subst (λ xs. IsIn z xs) (sym (free_more b)) i) in
       let nil : y.st ++ [] ≡ y.st = append-nil y.st in
       (suc (suc t.0), rw (sub, nil) t.1)
   settle k (s_group x xs ls b) r y gs = (0, refl)
@@ -52,9 +52,9 @@ module _ (p : AnfTree) (notes : List Note) (limit : ℕ) where
   lands_block y {w = w} {gs = gs} {top = top} k r s m j se e some n jr h o f mem len =
       let t = settle k se r y gs in
       let there : run (step_of p notes) (m + t.0) s ≡ source p notes limit y (Eval (InBlock (settled k)) (gather (free p (settled k)) r)) gs =
-          run-add (step_of p notes) m t.0 s ∙ ap (run (step_of p notes) t.0) e ∙ t.1 in
+      run-add (step_of p notes) m t.0 s ∙ ap (run (step_of p notes) t.0) e ∙ t.1 in
       let rel : Rel p notes w (target p notes limit y top) (source p notes limit y (Eval (InBlock (settled k)) (gather (free p (settled k)) r)) gs) =
-          r_inside y.es n (at_block (settled k) (gather (free p (settled k)) r) (record { whole = r; cut = refl }) jr) h o f mem len in
+      r_inside y.es n (at_block (settled k) (gather (free p (settled k)) r) (record { whole = r; cut = refl }) jr) h o f mem len in
       (m + t.0, (w, subst (Rel p notes w (target p notes limit y top)) (sym there) rel), inl (omega arith))
 
   pub lands_value : (y : Still) {w : World} {own : Own} {map : List Entry} {js : Waiting} {rs : List Env} {gs fs : AnfFrames}

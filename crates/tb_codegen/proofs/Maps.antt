@@ -72,9 +72,9 @@ waiting-in c d (ToTop k) q s i = absurd i
 waiting-in c d (Then x b l js) q s i =
     ⊎_elim
     (λ h. let v = variables-in c d (without (x ∷ []) (free_block c.captured b)) q s h in
-      record { var = v.0; deep = 0; named = here_named v.1; spot = v.2.spot; symbol = v.2.symbol })
+    record { var = v.0; deep = 0; named = here_named v.1; spot = v.2.spot; symbol = v.2.symbol })
     (λ h. let v = waiting-in c (suc d) js q s h in
-      record { var = v.var; deep = suc v.deep; named = further v.named; spot = v.spot; symbol = v.symbol ∙ ap (λ n. Variable n v.var) (down-suc d v.deep) })
+    record { var = v.var; deep = suc v.deep; named = further v.named; spot = v.spot; symbol = v.symbol ∙ ap (λ n. Variable n v.var) (down-suc d v.deep) })
     (in-cases (variables c d (without (x ∷ []) (free_block c.captured b))) _ _ i)
 
 pub in-waiting : (c : Body) (d : ℕ) (js : Waiting) (e y : ℕ) → Named c js e y →
@@ -112,26 +112,32 @@ pub waiting-slots : (c : Body) (d : ℕ) (js : Waiting) → NoRegisters (waiting
 waiting-slots c d js = record { none = λ j s i. let w = waiting-in c d js (Reg j) s i in reg-slot j _ w.spot }
 
 pub block-slots : (c : Body) (b : Block) (js : Waiting) → NoRegisters (block_map c b js)
-block-slots c b js = record { none = λ j s i. ⊎_elim
-    (λ h. let v = variables-in c 0 (free_block c.captured b) (Reg j) s h in reg-slot j _ v.2.spot)
-    (λ h. let w = waiting-in c 1 js (Reg j) s h in reg-slot j _ w.spot)
-    (in-cases (variables c 0 (free_block c.captured b)) _ _ i) }
+block-slots c b js = record {
+  none = λ j s i. ⊎_elim
+      (λ h. let v = variables-in c 0 (free_block c.captured b) (Reg j) s h in reg-slot j _ v.2.spot)
+      (λ h. let w = waiting-in c 1 js (Reg j) s h in reg-slot j _ w.spot)
+      (in-cases (variables c 0 (free_block c.captured b)) _ _ i);
+}
 
 -- a new word in a register where no word has a name
 pub put-into : (p : Spot) (V : Symbol → Type 0) (s : Symbol) (old : List Entry) → ((t : Symbol) → IsIn (Stands p t) old → ⊥) → V s →
     Into p V Same (Stands p s ∷ old) old
-put-into p V s old fresh v = record { into = λ q t. ⊎_elim
-    (λ e. inl (entry-spot p q s t e, subst V (sym (entry-symbol p q s t e)) v))
-    (λ h. inr ((λ e. fresh t (subst (λ r. IsIn (Stands r t) old) (sym e) h)), (t, h, same t))) }
+put-into p V s old fresh v = record {
+  into = λ q t. ⊎_elim
+      (λ e. inl (entry-spot p q s t e, subst V (sym (entry-symbol p q s t e)) v))
+      (λ h. inr ((λ e. fresh t (subst (λ r. IsIn (Stands r t) old) (sym e) h)), (t, h, same t)));
+}
 
 -- a register above those that are named is new, and so is the next
 pub above : (a : ℕ) (old : List Entry) → Below a old → (t : Symbol) → IsIn (Stands (Reg a) t) old → ⊥
 above a old b t i = let lt = b.below a t i in absurd (omega arith)
 
 pub below-more : (a : ℕ) (s : Symbol) (old : List Entry) → Below a old → Below (suc a) (Stands (Reg a) s ∷ old)
-below-more a s old b = record { below = λ j t. ⊎_elim
-    (λ e. let h = reg-same j a (entry-spot (Reg a) (Reg j) s t e) in omega (arith, h))
-    (λ i. let h = b.below j t i in omega (arith, h)) }
+below-more a s old b = record {
+  below = λ j t. ⊎_elim
+      (λ e. let h = reg-same j a (entry-spot (Reg a) (Reg j) s t e) in omega (arith, h))
+      (λ i. let h = b.below j t i in omega (arith, h));
+}
 
 pub none-below : (a : ℕ) (old : List Entry) → NoRegisters old → Below a old
 none-below a old n = record { below = λ j t i. absurd (n.none j t i) }

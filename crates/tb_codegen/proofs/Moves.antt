@@ -41,7 +41,7 @@ module _ (p : AnfTree) (notes : List Note) (limit : ℕ) (c : Assembled) where
   step_load x {w = w} {d = d} {s = s} {old = old} {new = new} {rs = rs} {slots = slots} z lt i into n pr h (o_here e) f mem len within =
       let k = h.holds (Slot s) z i in
       let hh = holds-into p x.st x.st w w (λ k i. i) rs rs x.regs slots d _ _ new old k.word (omega arith) h into
-          (moved p w rs x.regs slots old (Slot s) k.word x.st h k.here) (same-means p x.st rs) in
+      (moved p w rs x.regs slots old (Slot s) k.word x.st h k.here) (same-means p x.st rs) in
       rw (k.here) (quiet p notes limit x (record x { pc = x.pc + 1; regs = slice_set x.regs d k.word }) n pr hh (o_here e) f mem
       (length-set x.regs d k.word ∙ len) (omega arith) within)
 
@@ -81,7 +81,7 @@ module _ (p : AnfTree) (notes : List Note) (limit : ℕ) (c : Assembled) where
       Sim p notes limit (done x top i) (limit - x.pc) (source p notes limit x control gs)
   step_const x {w = w} {d = d} {old = old} {new = new} {rs = rs} {slots = slots} i k wr lt into n pr h o f mem len within =
       let hh = holds-into p x.st x.st w w (λ k i. i) rs rs x.regs slots d _ _ new old wr.word (omega arith) h into
-          (that_put w wr.word rs x.st k wr.rel) (same-means p x.st rs) in
+      (that_put w wr.word rs x.st k wr.rel) (same-means p x.st rs) in
       rw (wr.writes) (quiet p notes limit x (record x { pc = x.pc + 1; regs = slice_set x.regs d wr.word }) n pr hh o f mem
       (length-set x.regs d wr.word ∙ len) (omega arith) within)
     where
@@ -98,7 +98,7 @@ module _ (p : AnfTree) (notes : List Note) (limit : ℕ) (c : Assembled) where
       let k = h.holds (Reg a) z i in
       let few : s < length slots = omega arith in
       let hh = holds-slot p x.st x.st w rs rs x.regs slots s _ _ new old k.word few h into
-          (moved p w rs x.regs slots old (Reg a) k.word x.st h k.here) (same-means p x.st rs) in
+      (moved p w rs x.regs slots old (Reg a) k.word x.st h k.here) (same-means p x.st rs) in
       rw (lt-ltb s (length slots) few, k.here) (quiet p notes limit x (record x { pc = x.pc + 1 }) n pr hh (o_here (length-set slots s k.word ∙ e)) f mem len (omega arith) within)
 
   pub step_save : (x : Still) {w : World} {size : ℕ} {pt : Point} {old new : List Entry} {rs : List Env} {control : Control Code}

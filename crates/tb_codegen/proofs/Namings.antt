@@ -116,11 +116,11 @@ module _ (p : AnfTree) where
     block-uses (Bind x op k) y i =
         ⊎_elim
         (λ j. op-uses (Bind x op k) op y j
-          (λ h. let e = times-bind y x op k in omega (arith, e, h))
-          (λ h. let e = times-bind y x op k in omega (arith, e, h))
-          (λ l h. in-left (of_each closed_by (op ∷ [])) _ l h)
-          (λ l h. in-right (standing_at (Bind x op k)) _ l (subst (IsIn l) (sym (each-append standing_at (blocks_in op) (blocks k)))
-            (in-left (of_each standing_at (blocks_in op)) _ l h))))
+        (λ h. let e = times-bind y x op k in omega (arith, e, h))
+        (λ h. let e = times-bind y x op k in omega (arith, e, h))
+        (λ l h. in-left (of_each closed_by (op ∷ [])) _ l h)
+        (λ l h. in-right (standing_at (Bind x op k)) _ l (subst (IsIn l) (sym (each-append standing_at (blocks_in op) (blocks k)))
+        (in-left (of_each standing_at (blocks_in op)) _ l h))))
         (λ j. named-behind x op k y (block-uses k y (without-sub (x ∷ []) _ y j)))
         (in-cases (free_op (captured_in p) op) _ y i)
     block-uses (CloseAll xs ls k) y i =
@@ -158,11 +158,11 @@ module _ (p : AnfTree) where
         ⊎_elim
         (λ j. by_operation (own (times-in y _ (subst (IsIn y) (sym (append-nil (free_of_atom a))) j))))
         (λ j. ⊎_elim
-          (λ k. of-arm b e (Branch a e f) y (block-uses e y k) (λ h. let t = times-arms y a e f in omega (arith, t, h))
-            (λ l h. subst (IsIn l) (sym (each-append standing_at (blocks e) (blocks f))) (in-left (closed_within e) _ l h)) arms d)
-          (λ k. of-arm b f (Branch a e f) y (block-uses f y k) (λ h. let t = times-arms y a e f in omega (arith, t, h))
-            (λ l h. subst (IsIn l) (sym (each-append standing_at (blocks e) (blocks f))) (in-right (closed_within e) _ l h)) arms d)
-          (in-cases (free_block (captured_in p) e) _ y j))
+        (λ k. of-arm b e (Branch a e f) y (block-uses e y k) (λ h. let t = times-arms y a e f in omega (arith, t, h))
+        (λ l h. subst (IsIn l) (sym (each-append standing_at (blocks e) (blocks f))) (in-left (closed_within e) _ l h)) arms d)
+        (λ k. of-arm b f (Branch a e f) y (block-uses f y k) (λ h. let t = times-arms y a e f in omega (arith, t, h))
+        (λ l h. subst (IsIn l) (sym (each-append standing_at (blocks e) (blocks f))) (in-right (closed_within e) _ l h)) arms d)
+        (in-cases (free_block (captured_in p) e) _ y j))
         (in-cases (free_of_atom a) _ y i)
 
 -- a proc that is kept as a form is one, and has no lambda
@@ -205,11 +205,11 @@ named-of [] q rs z =
 named-of (r ∷ qs) q rs z =
     let h = named-of qs q rs z in
     let a : times z (named_of (r ∷ (qs ++ q ∷ rs))) ≡ times z (named_within r.body) + times z (named_of (qs ++ q ∷ rs)) =
-        ap (λ ops. times z (of_each named ops)) (each-append operation (blocks r.body) (blocks_of (qs ++ q ∷ rs)))
-        ∙ ap (times z) (each-append named (of_each operation (blocks r.body)) _) ∙ times-append z (named_within r.body) _ in
+    ap (λ ops. times z (of_each named ops)) (each-append operation (blocks r.body) (blocks_of (qs ++ q ∷ rs)))
+    ∙ ap (times z) (each-append named (of_each operation (blocks r.body)) _) ∙ times-append z (named_within r.body) _ in
     let b : times z (named_of (r ∷ qs)) ≡ times z (named_within r.body) + times z (named_of qs) =
-        ap (λ ops. times z (of_each named ops)) (each-append operation (blocks r.body) (blocks_of qs))
-        ∙ ap (times z) (each-append named (of_each operation (blocks r.body)) _) ∙ times-append z (named_within r.body) _ in
+    ap (λ ops. times z (of_each named ops)) (each-append operation (blocks r.body) (blocks_of qs))
+    ∙ ap (times z) (each-append named (of_each operation (blocks r.body)) _) ∙ times-append z (named_within r.body) _ in
     omega (arith, h, a, b)
 
 some-proc : (qs : List ProcTree) (r : ProcTree) (z : ℕ) → IsIn r qs → times z (named_within r.body) ≤ times z (named_of qs)
@@ -234,9 +234,9 @@ module _ (p : AnfTree) where
       ⊎_elim
       (λ i. let s = some-proc h.before r z i in omega (arith, e, g, s))
       (λ i. ⊎_elim
-        (λ f. absurd (ne (ap (λ (s : ProcTree). s.lambda) (sym f))))
-        (λ j. let s = some-proc h.behind r z j in omega (arith, e, g, s))
-        i)
+      (λ f. absurd (ne (ap (λ (s : ProcTree). s.lambda) (sym f))))
+      (λ j. let s = some-proc h.behind r z j in omega (arith, e, g, s))
+      i)
       (in-cases h.before (q ∷ h.behind) r (subst (IsIn r) h.stands (in-proc p r k)))
 
   -- the proc of a lambda
@@ -285,7 +285,7 @@ module _ (p : AnfTree) where
       let f = proc-found p.procs l q e in
       let keeps = every-at (ProcKeeps p) p.procs q rules.procs f.0 in
       let used = without-sub q.params (free_block (captured_in p) q.body) z
-          (in-tested (names_outside p q) z (every-at (λ x. is_in (names_outside p q) x ≡ true) q.captured z keeps.captures_named i)) in
+      (in-tested (names_outside p q) z (every-at (λ x. is_in (names_outside p q) x ≡ true) q.captured z keeps.captures_named i)) in
       at_use q (is-proc p p.procs [] q refl f.0) f.1 (block-uses p q.body z used)
       (λ k j. every-at (λ m. l < m) _ k (inner-of (q.lambda) l f.1 _ keeps.inner_greater) j)
     where

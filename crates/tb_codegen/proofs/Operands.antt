@@ -155,26 +155,36 @@ module _ (p : AnfTree) (notes : List Note) (limit : ℕ) where
   op_onto : {op : Op} {b : Block} {js gs : Waiting} {o : Option (List ℕ)} {rs : List Env} {fr fs : AnfFrames} (r : Env) (at : OpAt (captured_in p) op b js gs o) (j : JRel js rs fr fs) → IsCut p notes (free p b) r → (y : Still) →
       Onto p notes (config p notes (Eval (InBlock b) r) fr y.globals y.st y.cin y.met) (config p notes (Eval (InOp op) (gather (free_op (captured_in p) op) r)) (op_starts r at j).0 y.globals y.st y.cin y.met)
   unfolding op_starts
-  op_onto {op = op} {fr = fr} r (at_bind x k l) j cut y = record { store = refl; globals = refl; marked = omega arith; roots = λ n i. ⊎_elim
-      (λ i.
-      let F = free_op (captured_in p) op in
-      let ys = without (x ∷ []) (free p k) in
-      let v = value_of_cut (F ++ ys) cut.whole n (subst (λ r. IsIn n (values_locations (env_values r))) cut.cut i) in
-      let e : lookup r v.0 ≡ Some v.1 = subst (λ r. lookup r v.0 ≡ Some v.1) (sym cut.cut) v.3 in
-      ⊎_elim
-      (λ z. in-left (values_locations (env_values (gather F r))) _ n (found_location (gather F r) v.0 v.1 n (lookup-gather F r v.0 z ∙ e) v.4))
-      (λ z. in-right (values_locations (env_values (gather F r))) _ n (in-left (values_locations (env_values (gather ys r))) _ n (found_location (gather ys r) v.0 v.1 n (lookup-gather ys r v.0 z ∙ e) v.4)))
-      (in-cases F ys v.0 v.2))
-      (λ i. in-right (values_locations (env_values (gather (free_op (captured_in p) op) r))) _ n (in-right (values_locations (env_values (gather (without (x ∷ []) (free p k)) r))) _ n i))
-      (in-cases (values_locations (env_values r)) (frames_locations (language p).values fr) n i) }
-  op_onto {op = op} {fr = fr} r at_tail j cut y = record { store = refl; globals = refl; marked = refl; roots = λ n i. ⊎_elim
-      (λ i.
-      let F = free_op (captured_in p) op in
-      let v = value_of_cut F cut.whole n (subst (λ r. IsIn n (values_locations (env_values r))) cut.cut i) in
-      let e : lookup r v.0 ≡ Some v.1 = subst (λ r. lookup r v.0 ≡ Some v.1) (sym cut.cut) v.3 in
-      in-left (values_locations (env_values (gather F r))) _ n (found_location (gather F r) v.0 v.1 n (lookup-gather F r v.0 v.2 ∙ e) v.4))
-      (λ i. in-right (values_locations (env_values (gather (free_op (captured_in p) op) r))) _ n i)
-      (in-cases (values_locations (env_values r)) (frames_locations (language p).values fr) n i) }
+  op_onto {op = op} {fr = fr} r (at_bind x k l) j cut y = record {
+    store = refl;
+    globals = refl;
+    marked = omega arith;
+    roots = λ n i. ⊎_elim
+        (λ i.
+        let F = free_op (captured_in p) op in
+        let ys = without (x ∷ []) (free p k) in
+        let v = value_of_cut (F ++ ys) cut.whole n (subst (λ r. IsIn n (values_locations (env_values r))) cut.cut i) in
+        let e : lookup r v.0 ≡ Some v.1 = subst (λ r. lookup r v.0 ≡ Some v.1) (sym cut.cut) v.3 in
+        ⊎_elim
+        (λ z. in-left (values_locations (env_values (gather F r))) _ n (found_location (gather F r) v.0 v.1 n (lookup-gather F r v.0 z ∙ e) v.4))
+        (λ z. in-right (values_locations (env_values (gather F r))) _ n (in-left (values_locations (env_values (gather ys r))) _ n (found_location (gather ys r) v.0 v.1 n (lookup-gather ys r v.0 z ∙ e) v.4)))
+        (in-cases F ys v.0 v.2))
+        (λ i. in-right (values_locations (env_values (gather (free_op (captured_in p) op) r))) _ n (in-right (values_locations (env_values (gather (without (x ∷ []) (free p k)) r))) _ n i))
+        (in-cases (values_locations (env_values r)) (frames_locations (language p).values fr) n i);
+  }
+  op_onto {op = op} {fr = fr} r at_tail j cut y = record {
+    store = refl;
+    globals = refl;
+    marked = refl;
+    roots = λ n i. ⊎_elim
+        (λ i.
+        let F = free_op (captured_in p) op in
+        let v = value_of_cut F cut.whole n (subst (λ r. IsIn n (values_locations (env_values r))) cut.cut i) in
+        let e : lookup r v.0 ≡ Some v.1 = subst (λ r. lookup r v.0 ≡ Some v.1) (sym cut.cut) v.3 in
+        in-left (values_locations (env_values (gather F r))) _ n (found_location (gather F r) v.0 v.1 n (lookup-gather F r v.0 v.2 ∙ e) v.4))
+        (λ i. in-right (values_locations (env_values (gather (free_op (captured_in p) op) r))) _ n i)
+        (in-cases (values_locations (env_values r)) (frames_locations (language p).values fr) n i);
+  }
 
   -- an operation gives a value, which comes to a register
   pub lands_op : (x y : Still) {w : World} (z : World) {op : Op} {b : Block} {js gs : Waiting} {o : Option (List ℕ)} {own : Own} {d : ℕ}
@@ -219,9 +229,9 @@ module _ (p : AnfTree) (notes : List Note) (limit : ℕ) where
       let t = op_starts r at j in
       let e = ap (step_of p notes) (t.1 x) ∙ steps t.0 in
       let hh = holds-from p x.st y.st w w (λ k i. i) (r ∷ rs) (Env.Bind 0 Unspecified Empty ∷ pushed p [] [] o r rs) x.regs slots _ new old h from
-          (under p x.st y.st o [] [] r (Env.Bind 0 Unspecified Empty) rs (λ y i. absurd i)) in
+      (under p x.st y.st o [] [] r (Env.Bind 0 Unspecified Empty) rs (λ y i. absurd i)) in
       let rel : Rel p notes w (target p notes limit (record y { pc = x.pc + 1; regs = x.regs }) top) (source p notes limit y (Val Unspecified) t.0) =
-          r_inside y.es n (at_unspecified t.2) hh o2 f mem len in
+      r_inside y.es n (at_unspecified t.2) hh o2 f mem len in
       (2, (w, subst (Rel p notes w (target p notes limit (record y { pc = x.pc + 1; regs = x.regs }) top)) (sym e) rel), inl (omega arith))
 
   -- neither the source nor the machine has a next step

@@ -92,16 +92,18 @@ module _ (p : AnfTree) (all : List Noted) (home : ℕ → ℕ) (size : ℕ) wher
       (z : Symbol) × IsIn (Stands q z) (block_map body b js) × Under o xs z s
   waits-under op b js gs o xs (at_bind x k l) q s i =
       ⊎_elim
-      (λ h. let v = variables-in body 1 (without (x ∷ []) (free p k)) q s h in
-        (Variable 0 v.0,
+      (λ h. let v = variables-in body 1 (without (x ∷ []) (free p k)) q s h in (
+        Variable 0 v.0,
         in-left (variables body 0 (free p (Bind x op k))) _ _
-        (at-home _ v.0 0 q (Variable 0 v.0) v.2.spot refl (in-variables body 0 v.0 _ (in-right (free_op (captured_in p) op) _ v.0 v.1))),
-        subst (Under o xs (Variable 0 v.0)) (sym v.2.symbol) (u_waits v.0 (without (x ∷ []) (free p k)) refl v.1)))
-      (λ h. let w = waiting-in body 2 js q s h in
-        (Variable (down 1 w.deep) w.var,
+            (at-home _ v.0 0 q (Variable 0 v.0) v.2.spot refl (in-variables body 0 v.0 _ (in-right (free_op (captured_in p) op) _ v.0 v.1))),
+        subst (Under o xs (Variable 0 v.0)) (sym v.2.symbol) (u_waits v.0 (without (x ∷ []) (free p k)) refl v.1),
+      ))
+      (λ h. let w = waiting-in body 2 js q s h in (
+        Variable (down 1 w.deep) w.var,
         in-right (variables body 0 (free p (Bind x op k))) _ _
-        (at-home _ w.var (down 1 w.deep) q (Variable (down 1 w.deep) w.var) w.spot refl (in-waiting body 1 js w.deep w.var w.named)),
-        deeper-under (without (x ∷ []) (free p k)) w.deep w.var s w.symbol))
+            (at-home _ w.var (down 1 w.deep) q (Variable (down 1 w.deep) w.var) w.spot refl (in-waiting body 1 js w.deep w.var w.named)),
+        deeper-under (without (x ∷ []) (free p k)) w.deep w.var s w.symbol,
+      ))
       (in-cases (variables body 1 (without (x ∷ []) (free p k))) _ _ i)
     where
       deeper-under : (ys : List ℕ) (e y : ℕ) (t : Symbol) → t ≡ Variable (down 2 e) y → Under (Some ys) xs (Variable (down 1 e) y) t
@@ -120,27 +122,40 @@ module _ (p : AnfTree) (all : List Noted) (home : ℕ → ℕ) (size : ℕ) wher
   -- the map at the value of an operation, from its block once operands are loaded
   pub value-into : (op : Op) (b : Block) (js gs : Waiting) (o : Option (List ℕ)) (a : ℕ) (ds : List Operand) →
       OpAt (captured_in p) op b js gs o → Into (Reg 16) IsFirst (Under o []) (value_map body gs) (loaded a ds (block_map body b js))
-  value-into op b js gs o a ds at = record { into = λ q s i. ⊎_elim
-      (λ e. inl (entry-spot (Reg 16) q _ s e, subst IsFirst (sym (entry-symbol (Reg 16) q _ s e)) is_first))
-      (λ h. let u = waits-under op b js gs o [] at q s h in
-        inr ((λ e. (waiting-slots body 1 gs).none 16 s (subst (λ r. IsIn (Stands r s) (waiting_map body 1 gs)) (sym e) h)),
-        (u.0, in-loaded _ a ds _ u.1, u.2)))
-      i }
+  value-into op b js gs o a ds at = record {
+    into = λ q s i. ⊎_elim
+        (λ e. inl (entry-spot (Reg 16) q _ s e, subst IsFirst (sym (entry-symbol (Reg 16) q _ s e)) is_first))
+        (λ h. let u = waits-under op b js gs o [] at q s h in
+        inr (
+          (λ e. (waiting-slots body 1 gs).none 16 s (subst (λ r. IsIn (Stands r s) (waiting_map body 1 gs)) (sym e) h)),
+          (u.0, in-loaded _ a ds _ u.1, u.2),
+        ))
+        i;
+  }
 
   pub waits-from : (op : Op) (b : Block) (js gs : Waiting) (o : Option (List ℕ)) (a : ℕ) (ds : List Operand) →
       OpAt (captured_in p) op b js gs o → From (Under o []) (waiting_map body 1 gs) (loaded a ds (block_map body b js))
-  waits-from op b js gs o a ds at = record { from = λ q s i.
-      let u = waits-under op b js gs o [] at q s i in (u.0, in-loaded _ a ds _ u.1, u.2) }
+  waits-from op b js gs o a ds at = record {
+    from = λ q s i.
+        let u = waits-under op b js gs o [] at q s i in (u.0, in-loaded _ a ds _ u.1, u.2);
+  }
 
   -- the slots that a map at a return point names, and the value that comes back
   pub value-backs : (op : Op) (b : Block) (js gs : Waiting) (o : Option (List ℕ)) (a : ℕ) (ds : List Operand) →
       OpAt (captured_in p) op b js gs o → Backs o (value_map body gs) (loaded a ds (block_map body b js))
-  value-backs op b js gs o a ds at = record { backs = λ q s i. ⊎_elim
-      (λ e. inl (entry-spot (Reg 16) q _ s e, entry-symbol (Reg 16) q _ s e))
-      (λ h. let u = waits-under op b js gs o [] at q s h in let w = waiting-in body 1 gs q s h in
-        inr (home w.var, u.0, w.spot,
-        subst (λ r. IsIn (Stands r u.0) (loaded a ds (block_map body b js))) w.spot (in-loaded _ a ds _ u.1), u.2))
-      i }
+  value-backs op b js gs o a ds at = record {
+    backs = λ q s i. ⊎_elim
+        (λ e. inl (entry-spot (Reg 16) q _ s e, entry-symbol (Reg 16) q _ s e))
+        (λ h. let u = waits-under op b js gs o [] at q s h in let w = waiting-in body 1 gs q s h in
+        inr (
+          home w.var,
+          u.0,
+          w.spot,
+          subst (λ r. IsIn (Stands r u.0) (loaded a ds (block_map body b js))) w.spot (in-loaded _ a ds _ u.1),
+          u.2,
+        ))
+        i;
+  }
 
   -- the variables of an operation stand in their homes at its block
   pub names-stand : (op : Op) (b : Block) (js gs : Waiting) (o : Option (List ℕ)) → OpAt (captured_in p) op b js gs o → (x : ℕ) →
@@ -195,19 +210,26 @@ module _ (p : AnfTree) (all : List Noted) (home : ℕ → ℕ) (size : ℕ) wher
   pub opens-into : (op : Op) (b : Block) (js gs : Waiting) (o : Option (List ℕ)) (xs : List ℕ) → OpAt (captured_in p) op b js gs o →
       ((y : ℕ) → IsIn y xs → IsIn (Stands (Slot (home y)) (Variable 0 y)) (block_map body b js)) →
       Into (Reg 16) IsFirst (Opens o xs) (fill_map body 0 xs gs) (block_map body b js)
-  opens-into op b js gs o xs at st = record { into = λ q s i. ⊎_elim
-      (λ e. inl (entry-spot (Reg 16) q _ s e, subst IsFirst (sym (entry-symbol (Reg 16) q _ s e)) is_first))
-      (λ h. inr (⊎_elim
+  opens-into op b js gs o xs at st = record {
+    into = λ q s i. ⊎_elim
+        (λ e. inl (entry-spot (Reg 16) q _ s e, subst IsFirst (sym (entry-symbol (Reg 16) q _ s e)) is_first))
+        (λ h. inr (⊎_elim
         (λ g. let c = captures-in 0 xs q s g in
-          let z : 0 + c.0 ≡ c.0 = omega arith in
-          ((λ e. reg-slot 16 _ (e ∙ c.3)),
-          (Variable 0 c.1, subst (λ r. IsIn (Stands r (Variable 0 c.1)) (block_map body b js)) (sym c.3) (st c.1 (got-in xs c.0 c.1 c.2)),
-          subst (Opens o xs (Variable 0 c.1)) (ap Capture (sym z) ∙ sym c.4) (o_capture c.0 c.1 c.2))))
-        (λ g. let u = waits-under op b js gs o [] at q s g in
-          ((λ e. (waiting-slots body 1 gs).none 16 s (subst (λ r. IsIn (Stands r s) (waiting_map body 1 gs)) (sym e) g)),
-          (u.0, u.1, o_under u.2)))
+        let z : 0 + c.0 ≡ c.0 = omega arith in (
+          (λ e. reg-slot 16 _ (e ∙ c.3)),
+          (
+            Variable 0 c.1,
+            subst (λ r. IsIn (Stands r (Variable 0 c.1)) (block_map body b js)) (sym c.3) (st c.1 (got-in xs c.0 c.1 c.2)),
+            subst (Opens o xs (Variable 0 c.1)) (ap Capture (sym z) ∙ sym c.4) (o_capture c.0 c.1 c.2),
+          ),
+        ))
+        (λ g. let u = waits-under op b js gs o [] at q s g in (
+          (λ e. (waiting-slots body 1 gs).none 16 s (subst (λ r. IsIn (Stands r s) (waiting_map body 1 gs)) (sym e) g)),
+          (u.0, u.1, o_under u.2),
+        ))
         (in-cases (captures body 0 xs) _ _ h)))
-      i }
+        i;
+  }
     where
       got-in : (ys : List ℕ) (k y : ℕ) → slice_get ys k ≡ Some y → IsIn y ys
       got-in [] k y e = absurd (none-some e)

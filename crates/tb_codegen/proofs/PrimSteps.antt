@@ -69,35 +69,37 @@ get-same (suc n) (suc k) u x e = let t = get-same n k u x e in (t.0, (let lt = t
 -- a byte of a string is set
 bytes_set : (heap : List Word) (a : ℕ) (cs bs : List ℕ) (k c : ℕ) → k < length cs → slice_get heap (a + k / 4) ≡ Some (W.Raw bs) → BytesAt heap a cs →
     BytesAt (slice_set heap (a + k / 4) (W.Raw (slice_set bs (k % 4) c))) a (slice_set cs k c)
-bytes_set heap a cs bs k c lt e r = record { bytes = λ j d g.
-    let own = get-some cs k lt in
-    let bk = r.bytes k own.0 own.1 in
-    let same : bk.0 ≡ bs = cc (bk.1, e) in
-    let four : length bs ≡ 4 = ap length (sym same) ∙ bk.3 in
-    let four2 : length (slice_set bs (k % 4) c) ≡ 4 = length-set bs (k % 4) c ∙ four in
-    let inside : k % 4 < length bs = omega arith in
-    let word = get-set heap (a + k / 4) (W.Raw (slice_set bs (k % 4) c)) (get-within heap (a + k / 4) _ e) in
-    ⊎_elim
-    (λ (q : k ≡ j).
-    let z : c ≡ d = cc (get-set cs k c lt, g, q) in
-    let here : slice_get (slice_set heap (a + k / 4) (W.Raw (slice_set bs (k % 4) c))) (a + j / 4) ≡ Some (W.Raw (slice_set bs (k % 4) c)) =
-        subst (λ j. slice_get (slice_set heap (a + k / 4) (W.Raw (slice_set bs (k % 4) c))) (a + j / 4) ≡ Some (W.Raw (slice_set bs (k % 4) c))) q word in
-    let byte : slice_get (slice_set bs (k % 4) c) (j % 4) ≡ Some d = subst₂ (λ j d. slice_get (slice_set bs (k % 4) c) (j % 4) ≡ Some d) q z (get-set bs (k % 4) c inside) in
-    (slice_set bs (k % 4) c, here, byte, four2))
-    (λ ne.
-    let b = r.bytes j d (sym (set-other cs k j c ne) ∙ g) in
-    ⊎_elim
-    (λ (q : k / 4 ≡ j / 4).
-    let same2 : b.0 ≡ bs = cc (b.1, e, q) in
-    let apart : k % 4 ≡ j % 4 → ⊥ = λ m. ne (omega arith) in
-    let here : slice_get (slice_set heap (a + k / 4) (W.Raw (slice_set bs (k % 4) c))) (a + j / 4) ≡ Some (W.Raw (slice_set bs (k % 4) c)) =
-        subst (λ n. slice_get (slice_set heap (a + k / 4) (W.Raw (slice_set bs (k % 4) c))) (a + n) ≡ Some (W.Raw (slice_set bs (k % 4) c))) q word in
-    let byte : slice_get (slice_set bs (k % 4) c) (j % 4) ≡ Some d = set-other bs (k % 4) (j % 4) c apart ∙ subst (λ bs. slice_get bs (j % 4) ≡ Some d) same2 b.2 in
-    (slice_set bs (k % 4) c, here, byte, four2))
-    (λ far.
-    (b.0, get-set-other heap (a + k / 4) (a + j / 4) _ _ (λ m. far (omega arith)) b.1, b.2, b.3))
-    (cases_eq (k / 4) (j / 4)))
-    (cases_eq k j) }
+bytes_set heap a cs bs k c lt e r = record {
+  bytes = λ j d g.
+      let own = get-some cs k lt in
+      let bk = r.bytes k own.0 own.1 in
+      let same : bk.0 ≡ bs = cc (bk.1, e) in
+      let four : length bs ≡ 4 = ap length (sym same) ∙ bk.3 in
+      let four2 : length (slice_set bs (k % 4) c) ≡ 4 = length-set bs (k % 4) c ∙ four in
+      let inside : k % 4 < length bs = omega arith in
+      let word = get-set heap (a + k / 4) (W.Raw (slice_set bs (k % 4) c)) (get-within heap (a + k / 4) _ e) in
+      ⊎_elim
+      (λ (q : k ≡ j).
+      let z : c ≡ d = cc (get-set cs k c lt, g, q) in
+      let here : slice_get (slice_set heap (a + k / 4) (W.Raw (slice_set bs (k % 4) c))) (a + j / 4) ≡ Some (W.Raw (slice_set bs (k % 4) c)) =
+      subst (λ j. slice_get (slice_set heap (a + k / 4) (W.Raw (slice_set bs (k % 4) c))) (a + j / 4) ≡ Some (W.Raw (slice_set bs (k % 4) c))) q word in
+      let byte : slice_get (slice_set bs (k % 4) c) (j % 4) ≡ Some d = subst₂ (λ j d. slice_get (slice_set bs (k % 4) c) (j % 4) ≡ Some d) q z (get-set bs (k % 4) c inside) in
+      (slice_set bs (k % 4) c, here, byte, four2))
+      (λ ne.
+      let b = r.bytes j d (sym (set-other cs k j c ne) ∙ g) in
+      ⊎_elim
+      (λ (q : k / 4 ≡ j / 4).
+      let same2 : b.0 ≡ bs = cc (b.1, e, q) in
+      let apart : k % 4 ≡ j % 4 → ⊥ = λ m. ne (omega arith) in
+      let here : slice_get (slice_set heap (a + k / 4) (W.Raw (slice_set bs (k % 4) c))) (a + j / 4) ≡ Some (W.Raw (slice_set bs (k % 4) c)) =
+      subst (λ n. slice_get (slice_set heap (a + k / 4) (W.Raw (slice_set bs (k % 4) c))) (a + n) ≡ Some (W.Raw (slice_set bs (k % 4) c))) q word in
+      let byte : slice_get (slice_set bs (k % 4) c) (j % 4) ≡ Some d = set-other bs (k % 4) (j % 4) c apart ∙ subst (λ bs. slice_get bs (j % 4) ≡ Some d) same2 b.2 in
+      (slice_set bs (k % 4) c, here, byte, four2))
+      (λ far.
+      (b.0, get-set-other heap (a + k / 4) (a + j / 4) _ _ (λ m. far (omega arith)) b.1, b.2, b.3))
+      (cases_eq (k / 4) (j / 4)))
+      (cases_eq k j);
+}
 
 -- what is taken, on both sides, and what is peeked at
 record Took (w : World) (ahead : Option Taken) (input cin : List ℕ) (met : Bool) : Type 0 where
@@ -153,11 +155,16 @@ module _ (p : AnfTree) (notes : List Note) where
       let l2 = length-same (n + (n + 1) % 2) (W.Fix (pos 0)) in
       let head : slice_get (heap ++ ws) (length heap) ≡ Some (W.Header vector_kind n) = at_end heap ws (W.Header vector_kind n) refl in
       let full : PRel z (heap ++ ws) (length heap + 1) n (replicate n (Value.Fix (pos 0))) = fixes_at z (heap ++ ws) n (length heap + 1) (λ k lt.
-          let q : length heap + suc k ≡ length heap + 1 + k = omega arith in
-          subst (λ i. slice_get (heap ++ ws) i ≡ Some (W.Fix (pos 0))) q (at_next heap ws (suc k) (W.Fix (pos 0)) (get-replicate (n + (n + 1) % 2) k (W.Fix (pos 0)) (omega arith)))) in
-      (W.Header vector_kind n, head, omega arith, omega arith, refl,
-      o_vector (subst (λ m. m < 2 ^ 24) (sym l) few) (subst (λ m. slice_get (heap ++ ws) (length heap) ≡ Some (W.Header vector_kind m)) (sym l) head)
-      (subst (λ m. PRel z (heap ++ ws) (length heap + 1) m (replicate n (Value.Fix (pos 0)))) (sym l) full))
+      let q : length heap + suc k ≡ length heap + 1 + k = omega arith in
+      subst (λ i. slice_get (heap ++ ws) i ≡ Some (W.Fix (pos 0))) q (at_next heap ws (suc k) (W.Fix (pos 0)) (get-replicate (n + (n + 1) % 2) k (W.Fix (pos 0)) (omega arith)))) in (
+        W.Header vector_kind n,
+        head,
+        omega arith,
+        omega arith,
+        refl,
+        o_vector (subst (λ m. m < 2 ^ 24) (sym l) few) (subst (λ m. slice_get (heap ++ ws) (length heap) ≡ Some (W.Header vector_kind m)) (sym l) head)
+            (subst (λ m. PRel z (heap ++ ws) (length heap + 1) m (replicate n (Value.Fix (pos 0)))) (sym l) full),
+      )
   new_object w heap t ws o (n_string n few) z g =
       let ws = new_string n in
       let l = length-same {X = ℕ} n 0 in
@@ -166,14 +173,21 @@ module _ (p : AnfTree) (notes : List Note) where
       let l3 = length-same ((raw_size n + 1) % 2) (W.Fix (pos 0)) in
       let l4 = length-append raws (padding (raw_size n + 1)) in
       let head : slice_get (heap ++ ws) (length heap) ≡ Some (W.Header string_kind n) = at_end heap ws (W.Header string_kind n) refl in
-      let bytes : BytesAt (heap ++ ws) (length heap + 1) (replicate n 0) = record { bytes = λ k c e.
-          let s = get-same n k 0 c e in
-          let lt = s.1 in
-          let q : length heap + suc (k / 4) ≡ length heap + 1 + k / 4 = omega arith in
-          let f = get-left raws (padding (raw_size n + 1)) (k / 4) _ (get-replicate (raw_size n) (k / 4) (W.Raw (0 ∷ 0 ∷ 0 ∷ 0 ∷ [])) (omega arith)) in
-          (0 ∷ 0 ∷ 0 ∷ 0 ∷ [], subst (λ i. slice_get (heap ++ ws) i ≡ Some (W.Raw (0 ∷ 0 ∷ 0 ∷ 0 ∷ []))) q (at_next heap ws (suc (k / 4)) _ f), get-replicate 4 (k % 4) 0 (omega arith) ∙ ap Some s.0, refl) } in
-      (W.Header string_kind n, head, omega arith, omega arith, refl,
-      o_string (subst (λ m. m < 2 ^ 24) (sym l) few) (subst (λ m. slice_get (heap ++ ws) (length heap) ≡ Some (W.Header string_kind m)) (sym l) head) bytes)
+      let bytes : BytesAt (heap ++ ws) (length heap + 1) (replicate n 0) = record {
+        bytes = λ k c e.
+            let s = get-same n k 0 c e in
+            let lt = s.1 in
+            let q : length heap + suc (k / 4) ≡ length heap + 1 + k / 4 = omega arith in
+            let f = get-left raws (padding (raw_size n + 1)) (k / 4) _ (get-replicate (raw_size n) (k / 4) (W.Raw (0 ∷ 0 ∷ 0 ∷ 0 ∷ [])) (omega arith)) in
+            (0 ∷ 0 ∷ 0 ∷ 0 ∷ [], subst (λ i. slice_get (heap ++ ws) i ≡ Some (W.Raw (0 ∷ 0 ∷ 0 ∷ 0 ∷ []))) q (at_next heap ws (suc (k / 4)) _ f), get-replicate 4 (k % 4) 0 (omega arith) ∙ ap Some s.0, refl);
+      } in (
+        W.Header string_kind n,
+        head,
+        omega arith,
+        omega arith,
+        refl,
+        o_string (subst (λ m. m < 2 ^ 24) (sym l) few) (subst (λ m. slice_get (heap ++ ws) (length heap) ≡ Some (W.Header string_kind m)) (sym l) head) bytes,
+      )
 
   module _ (limit : ℕ) (c : Assembled) where
     -- a word of an object changes

@@ -129,9 +129,9 @@ module _ (w : World) (heap : List Word) (st : List Item) where
 
   fix : (n : ℤ) → ERel w heap st (M.gives_fix n) (E.gives_fix n)
   fix n = elim (is_fixnum n) as (λ b. ERel w heap st (cond b (M.Gives (W.Fix n)) (M.Fails Cause.Overflow)) (cond b (E.Gives (Value.Fix n)) (E.Fails Cause.Overflow))) [
-      | true ↦ e_gives (w_fix n)
-      | false ↦ e_fails Cause.Overflow
-    ]
+    | true ↦ e_gives (w_fix n)
+    | false ↦ e_fails Cause.Overflow
+  ]
 
   -- an operand that is to be a fixnum, or a character
   with_fix : (u : Word) (v : Value) (f : ℤ → M.Effect) (g : ℤ → E.Effect) → WRel w u v → ((n : ℤ) → ERel w heap st (f n) (g n)) → ERel w heap st (M.with_fix u f) (E.with_fix v g)
@@ -358,7 +358,7 @@ module _ (w : World) (heap : List Word) (st : List Item) where
   divides : (n : ℤ) (f : M.Effect) (g : E.Effect) → ERel w heap st f g → ERel w heap st (cond (M.is_zero n) (M.Fails Cause.ZeroDivide) f) (cond (E.is_zero n) (E.Fails Cause.ZeroDivide) g)
   divides n f g h =
       let q = zero_test n in
-      rw (sym q) (elim (M.is_zero n) as (λ b. ERel w heap st (cond b (M.Fails Cause.ZeroDivide) f) (cond b (E.Fails Cause.ZeroDivide) g)) [ | true ↦ e_fails Cause.ZeroDivide | false ↦ h ])
+      rw (sym q) (elim (M.is_zero n) as (λ b. ERel w heap st (cond b (M.Fails Cause.ZeroDivide) f) (cond b (E.Fails Cause.ZeroDivide) g)) [ true ↦ e_fails Cause.ZeroDivide | false ↦ h ])
 
   module _ (q0 : Unique w) where
     -- the primitives with two operands

@@ -63,16 +63,18 @@ numbered-found (q ∷ qs) first l h a b = by (first == l) refl (λ above. number
 -- the proc of a lambda among those that are numbered from one on
 pub numbered-at : (front rest : List ProcTree) (q : ProcTree) (first : ℕ) → Numbered first (front ++ q ∷ rest) →
     (proc_of (front ++ q ∷ rest) (first + length front) ≡ Some q) × (q.lambda ≡ Some (first + length front))
-numbered-at [] rest q first h =
-    (ap (λ (o : Option ℕ). cond (is_number o (first + 0)) (Some q) (proc_of rest (first + 0))) h.0
-    ∙ ap (λ c. cond c (Some q) (proc_of rest (first + 0))) (eq-eqb first (first + 0) (omega arith)),
-    h.0 ∙ ap Some (omega arith))
+numbered-at [] rest q first h = (
+  ap (λ (o : Option ℕ). cond (is_number o (first + 0)) (Some q) (proc_of rest (first + 0))) h.0
+      ∙ ap (λ c. cond c (Some q) (proc_of rest (first + 0))) (eq-eqb first (first + 0) (omega arith)),
+  h.0 ∙ ap Some (omega arith),
+)
 numbered-at (r ∷ front) rest q first h =
     let g = numbered-at front rest q (suc first) h.1 in
-    let same : suc first + length front ≡ first + suc (length front) = omega arith in
-    (ap (λ (o : Option ℕ). cond (is_number o (first + suc (length front))) (Some r) (proc_of (front ++ q ∷ rest) (first + suc (length front)))) h.0
-    ∙ by (first == first + suc (length front)) refl (ap (proc_of (front ++ q ∷ rest)) (sym same) ∙ g.0),
-    g.1 ∙ ap Some same)
+    let same : suc first + length front ≡ first + suc (length front) = omega arith in (
+      ap (λ (o : Option ℕ). cond (is_number o (first + suc (length front))) (Some r) (proc_of (front ++ q ∷ rest) (first + suc (length front)))) h.0
+          ∙ by (first == first + suc (length front)) refl (ap (proc_of (front ++ q ∷ rest)) (sym same) ∙ g.0),
+      g.1 ∙ ap Some same,
+    )
   where
     by : (c : Bool) → (first == first + suc (length front)) ≡ c → proc_of (front ++ q ∷ rest) (first + suc (length front)) ≡ Some q →
         cond c (Some r) (proc_of (front ++ q ∷ rest) (first + suc (length front))) ≡ Some q

@@ -40,9 +40,10 @@ some-same e = cc
 -- parts of a list that are apart, in the other order
 pub apart-swap : (xs ys : List ℕ) → IsApart (xs ++ ys) → IsApart (ys ++ xs)
 apart-swap xs [] h = subst IsApart (append-nil xs) h
-apart-swap xs (y ∷ ys) h =
-    ((λ i. ⊎_elim (λ j. here y j (apart-right xs (y ∷ ys) h)) (λ j. apart-both xs (y ∷ ys) y h (inl refl) j) (in-cases ys xs y i)),
-    apart-swap xs ys (drop xs h))
+apart-swap xs (y ∷ ys) h = (
+  (λ i. ⊎_elim (λ j. here y j (apart-right xs (y ∷ ys) h)) (λ j. apart-both xs (y ∷ ys) y h (inl refl) j) (in-cases ys xs y i)),
+  apart-swap xs ys (drop xs h),
+)
   where
     here : (z : ℕ) → IsIn z ys → IsApart (z ∷ ys) → ⊥
     here z j g = g.0 j
@@ -123,11 +124,13 @@ module _ (p : AnfTree) (rules : KeepsRules p) (fits : Fits p) where
       (r : ProcTree) × IsEntered p (noted_items p) home size l r
   is-entered home size l j lt =
       let f = lambda-found p rules l lt in
-      let kept = standing-kept p rules l f.0 j f.1 in
-      (f.0, record {
-        entered = record { there = f.1; kept = kept };
-        mark = subst (λ b. IsIn (Mark l (cond b (AtLifted l (operands_map (free p f.0.body) 1 f.0.params)) (AtProc l))) (noted_items p)) kept (mark-of l f.0 f.1);
-      })
+      let kept = standing-kept p rules l f.0 j f.1 in (
+        f.0,
+        record {
+          entered = record { there = f.1; kept = kept };
+          mark = subst (λ b. IsIn (Mark l (cond b (AtLifted l (operands_map (free p f.0.body) 1 f.0.params)) (AtProc l))) (noted_items p)) kept (mark-of l f.0 f.1);
+        },
+      )
 
   proc-apart : (q : ProcTree) → IsIn q p.procs → IsApart q.params
   proc-apart q i = apart-left q.params _ (every-at (ProcKeeps p) p.procs q rules.procs i).apart
@@ -139,8 +142,10 @@ module _ (p : AnfTree) (rules : KeepsRules p) (fits : Fits p) where
       record {
         lifts = record { there = e; lifted = f; alone = alone.0; no_rest = alone.1 };
         mark = subst (λ b. IsIn (Mark l (cond b (AtLifted l (operands_map (free p r.body) 1 r.params)) (AtProc l))) (noted_items p)) f (mark-of l r e);
-        starts = record { begins_lifted = λ q s k. let o = operands-in (free p r.body) 1 r.params (proc-apart r i) q s k in
-          (o.var, o.register, o.spot, o.symbol, o.used, o.at) };
+        starts = record {
+          begins_lifted = λ q s k. let o = operands-in (free p r.body) 1 r.params (proc-apart r i) q s k in
+              (o.var, o.register, o.spot, o.symbol, o.used, o.at);
+        };
       }
 
   module _ (q : ProcTree) (at : IsIn q p.procs) where
@@ -189,7 +194,7 @@ module _ (p : AnfTree) (rules : KeepsRules p) (fits : Fits p) where
         (every-at (IsShaped p) (operation r.0) op k.shaped r.2)
         (every-at (λ o. length (passed_by o) ≤ 12) (operations p) op fits.few_operands here)
         (λ l j. entered-at l (in-each standing_at (all_blocks p) r.0 l (in-blocks-of p.procs q r.0 at r.1) (stands r.0 op l r.2 j))
-          (every-at (λ n. n < length (lambdas_of p)) (standing_at r.0) l k.lambdas_in_range (stands r.0 op l r.2 j)))
+        (every-at (λ n. n < length (lambdas_of p)) (standing_at r.0) l k.lambdas_in_range (stands r.0 op l r.2 j)))
       where
         stands : (b : Block) (o : Op) (l : ℕ) → IsIn o (operation b) → IsIn l (closed_by o) → IsIn l (standing_at b)
         stands (Bind x o2 b) o l (inl f) j = in-left (closed_by o2) [] l (subst (λ z. IsIn l (closed_by z)) (sym f) j)
@@ -237,9 +242,11 @@ module _ (p : AnfTree) (rules : KeepsRules p) (fits : Fits p) where
     group-ok : (xs ls : List ℕ) (k : Block) → IsIn (CloseAll xs ls k) (blocks q.body) →
         (length xs ≡ length ls) × AllEntered p (noted_items p) (slot_of q) (frame_size q) ls
     group-ok xs ls k i =
-        let h = block-keeps (CloseAll xs ls k) i in
-        (h.same_long, all ls (λ l j. in-each standing_at (all_blocks p) (CloseAll xs ls k) l (in-blocks-of p.procs q (CloseAll xs ls k) at i) j)
-        h.lambdas_in_range)
+        let h = block-keeps (CloseAll xs ls k) i in (
+          h.same_long,
+          all ls (λ l j. in-each standing_at (all_blocks p) (CloseAll xs ls k) l (in-blocks-of p.procs q (CloseAll xs ls k) at i) j)
+              h.lambdas_in_range,
+        )
       where
         all : (ms : List ℕ) → ((l : ℕ) → IsIn l ms → IsIn l (of_each standing_at (all_blocks p))) → Every (λ l. l < length (lambdas_of p)) ms →
             AllEntered p (noted_items p) (slot_of q) (frame_size q) ms
@@ -273,22 +280,25 @@ module _ (p : AnfTree) (rules : KeepsRules p) (fits : Fits p) where
     pub entering : Entering p (noted_items p) (slot_of q) (frame_size q) q
     entering = record {
       small = λ x i. index-below (own_variables q) (origin (blocks q.body) x)
-        (subst (λ z. IsIn z (own_variables q)) (sym (own-origin x i)) (own-in x i));
+          (subst (λ z. IsIn z (own_variables q)) (sym (own-origin x i)) (own-in x i));
       own = λ x y i j e.
-        sym (own-origin x i)
-        ∙ index-same (own_variables q) _ _ (subst (λ z. IsIn z (own_variables q)) (sym (own-origin x i)) (own-in x i))
-        (subst (λ z. IsIn z (own_variables q)) (sym (own-origin y j)) (own-in y j)) e
-        ∙ own-origin y j;
+          sym (own-origin x i)
+          ∙ index-same (own_variables q) _ _ (subst (λ z. IsIn z (own_variables q)) (sym (own-origin x i)) (own-in x i))
+          (subst (λ z. IsIn z (own_variables q)) (sym (own-origin y j)) (own-in y j)) e
+          ∙ own-origin y j;
       apart = apart-swap q.params q.captured
-        (apart-left (q.params ++ q.captured) _ (subst IsApart (sym (append_assoc q.params q.captured _)) keeps.apart));
+          (apart-left (q.params ++ q.captured) _ (subst IsApart (sym (append_assoc q.params q.captured _)) keeps.apart));
       few = every-at (λ (r : ProcTree). length r.params ≤ 12) p.procs q fits.few_params at;
     }
 
     caught : Caught q.params q.captured (free p (settled q.body))
-    caught = record { caught = λ x i.
-      let n = in-tested (names_outside p q) x (every-at (λ y. is_in (names_outside p q) y ≡ true) q.captured x keeps.captures_named i) in
-      (subst (IsIn x) (sym settles-body) (without-sub q.params (free p q.body) x n),
-      (λ j. true≢false (sym (tested-in q.params x j) ∙ kept-apart q.params (free p q.body) x n))) }
+    caught = record {
+      caught = λ x i.
+          let n = in-tested (names_outside p q) x (every-at (λ y. is_in (names_outside p q) y ≡ true) q.captured x keeps.captures_named i) in (
+            subst (IsIn x) (sym settles-body) (without-sub q.params (free p q.body) x n),
+            (λ j. true≢false (sym (tested-in q.params x j) ∙ kept-apart q.params (free p q.body) x n)),
+          );
+    }
 
     lambda-ok : (n : ℕ) → proc_of p.procs n ≡ Some q → LambdaOk p (noted_items p) n q
     lambda-ok n e = record {
@@ -319,16 +329,18 @@ module _ (p : AnfTree) (rules : KeepsRules p) (fits : Fits p) where
   forms-ok : (front rest : List ProcTree) → forms_of p ≡ front ++ rest → FormsOk p (noted_items p) (length front) rest
   forms-ok front [] e = tt
   forms-ok front (q ∷ rest) e =
-      let i : IsIn q (forms_of p) = subst (IsIn q) (sym e) (in-right front (q ∷ rest) q (inl refl)) in
-      (form-ok q (form-in p rules q i) (length front) (passes is_form p.procs q i) (form-at p rules front rest q e),
-      subst (λ n. FormsOk p (noted_items p) n rest) (length-last front q) (forms-ok (front ++ q ∷ []) rest (e ∙ sym (append_assoc front (q ∷ []) rest))))
+      let i : IsIn q (forms_of p) = subst (IsIn q) (sym e) (in-right front (q ∷ rest) q (inl refl)) in (
+        form-ok q (form-in p rules q i) (length front) (passes is_form p.procs q i) (form-at p rules front rest q e),
+        subst (λ n. FormsOk p (noted_items p) n rest) (length-last front q) (forms-ok (front ++ q ∷ []) rest (e ∙ sym (append_assoc front (q ∷ []) rest))),
+      )
 
   lambdas-ok : (front rest : List ProcTree) → lambdas_of p ≡ front ++ rest → LambdasOk p (noted_items p) (length front) rest
   lambdas-ok front [] e = tt
   lambdas-ok front (q ∷ rest) e =
-      let i : IsIn q (lambdas_of p) = subst (IsIn q) (sym e) (in-right front (q ∷ rest) q (inl refl)) in
-      (lambda-ok q (lambda-in p rules q i) (length front) (lambda-at p rules front rest q e).0,
-      subst (λ n. LambdasOk p (noted_items p) n rest) (length-last front q) (lambdas-ok (front ++ q ∷ []) rest (e ∙ sym (append_assoc front (q ∷ []) rest))))
+      let i : IsIn q (lambdas_of p) = subst (IsIn q) (sym e) (in-right front (q ∷ rest) q (inl refl)) in (
+        lambda-ok q (lambda-in p rules q i) (length front) (lambda-at p rules front rest q e).0,
+        subst (λ n. LambdasOk p (noted_items p) n rest) (length-last front q) (lambdas-ok (front ++ q ∷ []) rest (e ∙ sym (append_assoc front (q ∷ []) rest))),
+      )
 
   pub program-ok : ProgramOk p
   program-ok = record { forms = forms-ok [] (forms_of p) refl; lambdas = lambdas-ok [] (lambdas_of p) refl; no_more = forms-end p rules }

@@ -245,10 +245,13 @@ module _ (p : AnfTree) (w : ℕ) (narrow : w ≤ 1000) where
     -- captured words are written
     fills-good : (m : ℕ) (js : Waiting) (j : ℕ) (xs : List ℕ) → ((x : ℕ) → IsIn x xs → home x < size) → j + length xs ≤ 1000 → AllGood (fills c m js j xs)
     fills-good m js j [] h le = tt
-    fills-good m js j (x ∷ xs) h le =
-        (load-good 1 (Var x) _ (lit≤ tt) (h x (inl refl)) few_slots,
-        (record { field_ok = (lit≤ tt, lit≤ tt, omega (arith, le)); map_ok = few_slots; place_ok = refl; small = omega arith; spares_first = tt },
-        fills-good m js (suc j) xs (λ y i. h y (inr i)) (omega (arith, le))))
+    fills-good m js j (x ∷ xs) h le = (
+      load-good 1 (Var x) _ (lit≤ tt) (h x (inl refl)) few_slots,
+      (
+        record { field_ok = (lit≤ tt, lit≤ tt, omega (arith, le)); map_ok = few_slots; place_ok = refl; small = omega arith; spares_first = tt },
+        fills-good m js (suc j) xs (λ y i. h y (inr i)) (omega (arith, le)),
+      ),
+    )
 
     unspecified-good : (js : Waiting) → AllGood (unspecified_result c js)
     unspecified-good js = (special-good 16 (imm_bits unspecified) _ (lit≤ tt) refl few_slots, tt)
@@ -332,9 +335,10 @@ module _ (p : AnfTree) (w : ℕ) (narrow : w ≤ 1000) where
 
     makes-good : (xs ls : List ℕ) (b : Block) (js : Waiting) (done ys ms : List ℕ) → ((y : ℕ) → IsIn y ys → home y < size) → LambdasGood ms →
         AllGood (makes c xs ls b js done ys ms)
-    makes-good xs ls b js done (y ∷ ys) (m ∷ ms) h g =
-        (clo-good m _ g.0 (making-small done),
-        (store-good 16 y _ (lit≤ tt) (lit≤ tt) (h y (inl refl)) few_slots, makes-good xs ls b js (done ++ y ∷ []) ys ms (λ z i. h z (inr i)) g.1))
+    makes-good xs ls b js done (y ∷ ys) (m ∷ ms) h g = (
+      clo-good m _ g.0 (making-small done),
+      (store-good 16 y _ (lit≤ tt) (lit≤ tt) (h y (inl refl)) few_slots, makes-good xs ls b js (done ++ y ∷ []) ys ms (λ z i. h z (inr i)) g.1),
+    )
       where
         making-small : (zs : List ℕ) → SmallNote (making_note c xs ls b js zs)
         making-small [] = few_slots
@@ -346,10 +350,13 @@ module _ (p : AnfTree) (w : ℕ) (narrow : w ≤ 1000) where
     words-good : (y : ℕ) (pt : ℕ → Point) (es : List Entry) (j : ℕ) (xs : List ℕ) → ((x : ℕ) → IsIn x xs → home x < size) → j + length xs ≤ 1000 →
         AllGood (words c y pt es j xs)
     words-good y pt es j [] h le = tt
-    words-good y pt es j (x ∷ xs) h le =
-        (load-good 1 (Var x) _ (lit≤ tt) (h x (inl refl)) few_slots,
-        (record { field_ok = (lit≤ tt, lit≤ tt, omega (arith, le)); map_ok = few_slots; place_ok = refl; small = omega arith; spares_first = tt },
-        words-good y pt es (suc j) xs (λ z i. h z (inr i)) (omega (arith, le))))
+    words-good y pt es j (x ∷ xs) h le = (
+      load-good 1 (Var x) _ (lit≤ tt) (h x (inl refl)) few_slots,
+      (
+        record { field_ok = (lit≤ tt, lit≤ tt, omega (arith, le)); map_ok = few_slots; place_ok = refl; small = omega arith; spares_first = tt },
+        words-good y pt es (suc j) xs (λ z i. h z (inr i)) (omega (arith, le)),
+      ),
+    )
 
     all-words-good : (y : ℕ) (pt : ℕ → Point) (es : List Entry) (xs : List ℕ) → home y < size → ((x : ℕ) → IsIn x xs → home x < size) → length xs ≤ 1000 →
         AllGood (all_words c y pt es xs)
@@ -419,6 +426,7 @@ module _ (p : AnfTree) (w : ℕ) (narrow : w ≤ 1000) where
 
     mutual
       unfolding code_block code_bound code_last
+
       pub block-good : (b : Block) (js : Waiting) (l : ℕ) → BlockGood b → WaitGood js → AllGood (code_block c b js l)
       block-good (Bind x op k) js l h g =
           good-append (code_bound c op x k js l) _ (arms-good op x k js l h.0 h.1) (block-good k js (l + labels_of op) h.2 g)

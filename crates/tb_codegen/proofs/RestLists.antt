@@ -113,8 +113,8 @@ module _ (p : AnfTree) (notes : List Note) (limit : ℕ) (c : Assembled) where
       let t3 = le-ltb 12 (length vs) few in
       let us = take (length vs - n) (drop (n + 1) x.regs) in
       let rel : WsRel w us (drop n vs) =
-          (let h = ins_words w x.regs (1 + n) (drop n vs) (ins_drop w x.regs 1 n vs call.ops) in
-          let a = length_drop n vs in let b : 1 + n ≡ n + 1 = omega arith in subst₂ (λ k i. WsRel w (take k (drop i x.regs)) (drop n vs)) a b h) in
+      (let h = ins_words w x.regs (1 + n) (drop n vs) (ins_drop w x.regs 1 n vs call.ops) in
+      let a = length_drop n vs in let b : 1 + n ≡ n + 1 = omega arith in subst₂ (λ k i. WsRel w (take k (drop i x.regs)) (drop n vs)) a b h) in
       let l0 = length x.st in
       let z = links (length x.heap) l0 (drop n vs) ++ w in
       let g : Grows w z = λ k i. in-right (links (length x.heap) l0 (drop n vs)) w k i in
@@ -129,7 +129,7 @@ module _ (p : AnfTree) (notes : List Note) (limit : ℕ) (c : Assembled) where
       let yy = record x { pc = x.pc + 1; regs = slice_set x.regs (n + 1) u; heap = x.heap ++ wl; gap = drop (length wl) x.gap; st = st2 } in
       let gt = sp.get in let lo = sp.long in let wh = sp.whole in
       let e : run (step_of p notes) 1 (source p notes limit x (Entering (Closure l) vs) (f ∷ fs)) ≡ source p notes limit yy (Eval (InBlock q.body) (gather (free p q.body) (bind_all q.params ws (bind_all (captured_in p m) call.caught Empty)))) (f ∷ fs) =
-          rw (call.item, en.there, rest, e1, gt, lo, t, wh) refl in
+      rw (call.item, en.there, rest, e1, gt, lo, t, wh) refl in
       let b : 1 + n ≡ n + 1 = omega arith in
       let ins2 : Ins z (slice_set x.regs (n + 1) u) 1 ws = subst (λ k. Ins z (slice_set x.regs k u) 1 ws) b (ins_rest w z g x.regs 1 n vs u v (omega arith) (list_word p notes w (length x.heap) l0 us (drop n vs) rel) ge call.ops) in
       let lt = length_taken n vs ge in let la = length-append (take n vs) (v ∷ []) in

@@ -25,7 +25,7 @@ module _ (p : AnfTree) (all : List Noted) (rules : KeepsRules p) (q : ProcTree) 
     (ops : (op : Op) → IsIn op (of_each operation (blocks q.body)) → is_branch op ≡ false → OpOk p all (slot_of q) (frame_size q) op)
     (tests : (a : Operand) (b d : Block) → IsIn (Branch a b d) (of_each operation (blocks q.body)) → QuoteOk p a)
     (groups : (xs ls : List ℕ) (k : Block) → IsIn (CloseAll xs ls k) (blocks q.body) →
-      (length xs ≡ length ls) × AllEntered p all (slot_of q) (frame_size q) ls) where
+    (length xs ≡ length ls) × AllEntered p all (slot_of q) (frame_size q) ls) where
   abbrev B : List Block
   B = blocks q.body
 
@@ -201,17 +201,17 @@ module _ (p : AnfTree) (all : List Noted) (rules : KeepsRules p) (q : ProcTree) 
       by (itself e i) = record {
         small = index-below (own_variables q) (origin B x) (subst (λ z. IsIn z (own_variables q)) (sym e) i);
         apart = λ y j f.
-          let g = same-origin y (subst (λ z. IsIn z (own_variables q)) (sym e) i) (behind-in y j) f in
-          new-x (subst (λ z. IsIn z S) (sym g ∙ e) (s.origins y (behind-in y j)));
+            let g = same-origin y (subst (λ z. IsIn z (own_variables q)) (sym e) i) (behind-in y j) f in
+            new-x (subst (λ z. IsIn z S) (sym g ∙ e) (s.origins y (behind-in y j)));
       }
       by (of_cell z e i in_s nowhere apart_cells) = record {
         small = index-below (own_variables q) (origin B x) (subst (λ w. IsIn w (own_variables q)) (sym e) i);
         apart = λ y j f.
-          let g = sym (same-origin y (subst (λ w. IsIn w (own_variables q)) (sym e) i) (behind-in y j) f) ∙ e in
-          ⊎_elim
-          (λ same. nowhere (subst (λ w. IsIn w (free p k ++ ws)) (sym same ∙ g) (named-behind y j)))
-          (λ other. apart_cells y (behind-in y j) other g)
-          (cases_eq (origin B y) y);
+            let g = sym (same-origin y (subst (λ w. IsIn w (own_variables q)) (sym e) i) (behind-in y j) f) ∙ e in
+            ⊎_elim
+            (λ same. nowhere (subst (λ w. IsIn w (free p k ++ ws)) (sym same ∙ g) (named-behind y j)))
+            (λ other. apart_cells y (behind-in y j) other g)
+            (cases_eq (origin B y) y);
       }
         where
           named-behind : (y : ℕ) → IsIn y (without (x ∷ []) (free p k) ++ ws) → IsIn y (free p k ++ ws)
@@ -222,25 +222,25 @@ module _ (p : AnfTree) (all : List Noted) (rules : KeepsRules p) (q : ProcTree) 
   scope-behind x op k S ws R s = record {
     inside = λ e i. s.inside e (inr (in-right (blocks_in op) _ e i));
     names = λ y i. ⊎_elim
-      (λ e. inl e)
-      (λ ne. inr (s.names y (in-right (free_op (captured_in p) op) _ y (kept-other x y (free p k) i ne))))
-      (cases_eq x y);
+        (λ e. inl e)
+        (λ ne. inr (s.names y (in-right (free_op (captured_in p) op) _ y (kept-other x y (free p k) i ne))))
+        (cases_eq x y);
     waits = λ y i. inr (s.waits y i);
     fresh = λ y i j. ⊎_elim
-      (λ e. s.apart.0 (subst (λ w. IsIn w (of_each binders (blocks_in op ++ blocks k))) (sym e) (behind y j)))
-      (λ m. s.fresh y m (inr (behind y j)))
-      i;
+        (λ e. s.apart.0 (subst (λ w. IsIn w (of_each binders (blocks_in op ++ blocks k))) (sym e) (behind y j)))
+        (λ m. s.fresh y m (inr (behind y j)))
+        i;
     apart = apart-right (of_each binders (blocks_in op)) _ (subst IsApart (each-append binders (blocks_in op) (blocks k)) s.apart.1);
     owned = λ y i. ⊎_elim (λ e. subst (λ w. IsIn (origin B w) (own_variables q)) e (own_x (origin-of x op k S ws R s))) (s.owned y) i;
     origins = λ y i. ⊎_elim (λ e. subst (λ w. IsIn (origin B w) (x ∷ S)) e (in_x (origin-of x op k S ws R s))) (λ m. inr (s.origins y m)) i;
     dead = λ y i ne j. ⊎_elim
-      (λ e. dead_x (origin-of x op k S ws R s) (subst (λ w. origin B w ≡ w → ⊥) (sym e) ne) (subst (λ w. IsIn (origin B w) (free p k ++ ws)) (sym e) j))
-      (λ m. s.dead y m ne (⊎_elim
+        (λ e. dead_x (origin-of x op k S ws R s) (subst (λ w. origin B w ≡ w → ⊥) (sym e) ne) (subst (λ w. IsIn (origin B w) (free p k ++ ws)) (sym e) j))
+        (λ m. s.dead y m ne (⊎_elim
         (λ n. in-left (free p (Bind x op k)) ws _ (in-right (free_op (captured_in p) op) _ _ (kept-other x _ (free p k) n
-          (λ e. s.fresh x (subst (λ w. IsIn w S) (sym e) (s.origins y m)) (inl refl)))))
+        (λ e. s.fresh x (subst (λ w. IsIn w S) (sym e) (s.origins y m)) (inl refl)))))
         (in-right (free p (Bind x op k)) ws _)
         (in-cases (free p k) ws _ j)))
-      i;
+        i;
     counted = λ z. let c = s.counted z in let t = times-bind z x op k in omega (arith, c, t);
     left = s.left;
   }
@@ -302,24 +302,24 @@ module _ (p : AnfTree) (all : List Noted) (rules : KeepsRules p) (q : ProcTree) 
     inside = λ f i. s.inside f (inr (in-left (blocks b ++ blocks d) _ f (arm.within f i)));
     names = λ y i. s.names y (in-left (free_op (captured_in p) (Branch a b d)) _ y (arm.names_in y i));
     waits = λ y i. ⊎_elim
-      (λ j. s.names y (in-right (free_op (captured_in p) (Branch a b d)) _ y j)) (s.waits y) (in-cases (without (x ∷ []) (free p k)) ws y i);
+        (λ j. s.names y (in-right (free_op (captured_in p) (Branch a b d)) _ y j)) (s.waits y) (in-cases (without (x ∷ []) (free p k)) ws y i);
     fresh = λ y i j. s.fresh y i (inr (binders_in y (arm.bound_in y j)));
     apart = arm.own_apart (apart-left (of_each binders (blocks b ++ blocks d)) _ (subst IsApart (each-append binders (blocks b ++ blocks d) (blocks k)) s.apart.1));
     owned = s.owned;
     origins = s.origins;
     dead = λ y i ne j. s.dead y i ne (⊎_elim
-      (λ m. in-left (free p (Bind x (Branch a b d) k)) ws _ (in-left (free_op (captured_in p) (Branch a b d)) _ _ (arm.names_in _ m)))
-      (λ m. ⊎_elim
+        (λ m. in-left (free p (Bind x (Branch a b d) k)) ws _ (in-left (free_op (captured_in p) (Branch a b d)) _ _ (arm.names_in _ m)))
+        (λ m. ⊎_elim
         (λ n. in-left (free p (Bind x (Branch a b d) k)) ws _ (in-right (free_op (captured_in p) (Branch a b d)) _ _ n))
         (in-right (free p (Bind x (Branch a b d) k)) ws _)
         (in-cases (without (x ∷ []) (free p k)) ws _ m))
-      (in-cases (free p e) _ _ j));
+        (in-cases (free p e) _ _ j));
     counted = λ z. let c = s.counted z in let t = times-bind z x (Branch a b d) k in let f = arm.fewer z in
-      let g = times-append z (named_within k) R in omega (arith, c, t, f, g);
+        let g = times-append z (named_within k) R in omega (arith, c, t, f, g);
     left = λ y i. ⊎_elim
-      (λ j. behind-left k R y (λ l m. closed-inside (Bind x (Branch a b d) k) s.inside l (closed_behind l m)) (block-uses p k y (without-sub (x ∷ []) _ y j)))
-      (λ j. left-more k R y (s.left y j))
-      (in-cases (without (x ∷ []) (free p k)) ws y i);
+        (λ j. behind-left k R y (λ l m. closed-inside (Bind x (Branch a b d) k) s.inside l (closed_behind l m)) (block-uses p k y (without-sub (x ∷ []) _ y j)))
+        (λ j. left-more k R y (s.left y j))
+        (in-cases (without (x ∷ []) (free p k)) ws y i);
   }
     where
       binders_in : (y : ℕ) → IsIn y (of_each binders (blocks b ++ blocks d)) → IsIn y (of_each binders ((blocks b ++ blocks d) ++ blocks k))
@@ -339,9 +339,9 @@ module _ (p : AnfTree) (all : List Noted) (rules : KeepsRules p) (q : ProcTree) 
     owned = s.owned;
     origins = s.origins;
     dead = λ y i ne j. s.dead y i ne (⊎_elim
-      (λ m. in-left (free p (Tail (Branch a b d))) ws _ (arm.names_in _ m))
-      (in-right (free p (Tail (Branch a b d))) ws _)
-      (in-cases (free p e) ws _ j));
+        (λ m. in-left (free p (Tail (Branch a b d))) ws _ (arm.names_in _ m))
+        (in-right (free p (Tail (Branch a b d))) ws _)
+        (in-cases (free p e) ws _ j));
     counted = λ z. let c = s.counted z in let t = times-tail z (Branch a b d) in let f = arm.fewer z in omega (arith, c, t, f);
     left = s.left;
   }
@@ -350,9 +350,10 @@ module _ (p : AnfTree) (all : List Noted) (rules : KeepsRules p) (q : ProcTree) 
   group-origin : (xs ls : List ℕ) (k : Block) (S ws R : List ℕ) → Scope (CloseAll xs ls k) S ws R → (x : ℕ) → IsIn x xs →
       (origin B x ≡ x) × IsIn x (own_variables q)
   group-origin xs ls k S ws R s x i =
-      let inside = s.inside _ (inl refl) in
-      (origin-group B x xs ls k inside i binders-apart,
-      in-right q.params _ x (in-right q.captured _ x (in-each plain_binders B (CloseAll xs ls k) x inside i)))
+      let inside = s.inside _ (inl refl) in (
+        origin-group B x xs ls k inside i binders-apart,
+        in-right q.params _ x (in-right q.captured _ x (in-each plain_binders B (CloseAll xs ls k) x inside i)),
+      )
 
   scope-group : (xs ls : List ℕ) (k : Block) (S ws R : List ℕ) → Scope (CloseAll xs ls k) S ws R → Scope k (xs ++ S) ws R
   scope-group xs ls k S ws R s = record {
@@ -360,23 +361,23 @@ module _ (p : AnfTree) (all : List Noted) (rules : KeepsRules p) (q : ProcTree) 
     names = λ y i. by y (is_in xs y) refl i;
     waits = λ y i. in-right xs S y (s.waits y i);
     fresh = λ y i j. ⊎_elim
-      (λ m. apart-both xs (of_each binders (blocks k)) y s.apart j m)
-      (λ m. s.fresh y m (in-right xs _ y j))
-      (in-cases xs S y i);
+        (λ m. apart-both xs (of_each binders (blocks k)) y s.apart j m)
+        (λ m. s.fresh y m (in-right xs _ y j))
+        (in-cases xs S y i);
     apart = apart-right xs _ s.apart;
     owned = λ y i. ⊎_elim
-      (λ m. let g = group-origin xs ls k S ws R s y m in subst (λ w. IsIn w (own_variables q)) (sym g.0) g.1)
-      (s.owned y) (in-cases xs S y i);
+        (λ m. let g = group-origin xs ls k S ws R s y m in subst (λ w. IsIn w (own_variables q)) (sym g.0) g.1)
+        (s.owned y) (in-cases xs S y i);
     origins = λ y i. ⊎_elim
-      (λ m. let g = group-origin xs ls k S ws R s y m in subst (λ w. IsIn w (xs ++ S)) (sym g.0) i)
-      (λ m. in-right xs S _ (s.origins y m)) (in-cases xs S y i);
+        (λ m. let g = group-origin xs ls k S ws R s y m in subst (λ w. IsIn w (xs ++ S)) (sym g.0) i)
+        (λ m. in-right xs S _ (s.origins y m)) (in-cases xs S y i);
     dead = λ y i ne j. ⊎_elim
-      (λ m. ne (group-origin xs ls k S ws R s y m).0)
-      (λ m. s.dead y m ne (⊎_elim
+        (λ m. ne (group-origin xs ls k S ws R s y m).0)
+        (λ m. s.dead y m ne (⊎_elim
         (λ n. in-left (free p (CloseAll xs ls k)) ws _ (in-without xs _ _ (in-right (of_lambdas (captured_in p) ls) _ _ n) (not_bound _ (s.origins y m))))
         (in-right (free p (CloseAll xs ls k)) ws _)
         (in-cases (free p k) ws _ j)))
-      (in-cases xs S y i);
+        (in-cases xs S y i);
     counted = s.counted;
     left = s.left;
   }
@@ -400,19 +401,21 @@ module _ (p : AnfTree) (all : List Noted) (rules : KeepsRules p) (q : ProcTree) 
   group-homes : (xs ls : List ℕ) (k : Block) (S ws R : List ℕ) → Scope (CloseAll xs ls k) S ws R → (done ys : List ℕ) → xs ≡ done ++ ys →
       HomesOk p all (slot_of q) (frame_size q) done ys (free p (CloseAll xs ls k) ++ ws)
   group-homes xs ls k S ws R s done [] e = tt
-  group-homes xs ls k S ws R s done (y ∷ ys) e =
-      (record {
-        small = index-below (own_variables q) (origin B y) (subst (λ w. IsIn w (own_variables q)) (sym own.0) own.1);
-        apart = λ z i f. ⊎_elim
+  group-homes xs ls k S ws R s done (y ∷ ys) e = (
+    record {
+      small = index-below (own_variables q) (origin B y) (subst (λ w. IsIn w (own_variables q)) (sym own.0) own.1);
+      apart = λ z i f. ⊎_elim
           (λ j. let g = group-origin xs ls k S ws R s z (subst (IsIn z) (sym e) (in-left done (y ∷ ys) z j)) in
-            let same = index-same (own_variables q) (origin B y) (origin B z) (subst (λ w. IsIn w (own_variables q)) (sym own.0) own.1)
-                (subst (λ w. IsIn w (own_variables q)) (sym g.0) g.1) f in
-            parts done ys y (subst IsApart e (apart-left xs _ s.apart)) (subst (λ w. IsIn w done) (sym (sym own.0 ∙ same ∙ g.0)) j))
+          let same = index-same (own_variables q) (origin B y) (origin B z) (subst (λ w. IsIn w (own_variables q)) (sym own.0) own.1)
+          (subst (λ w. IsIn w (own_variables q)) (sym g.0) g.1) f in
+          parts done ys y (subst IsApart e (apart-left xs _ s.apart)) (subst (λ w. IsIn w done) (sym (sym own.0 ∙ same ∙ g.0)) j))
           (λ j. let in_s = scoped z j in
-            let same = index-same (own_variables q) (origin B y) (origin B z) (subst (λ w. IsIn w (own_variables q)) (sym own.0) own.1) (s.owned z in_s) f in
-            s.fresh y (subst (λ w. IsIn w S) (sym same ∙ own.0) (s.origins z in_s)) (in-left xs _ y in_y))
+          let same = index-same (own_variables q) (origin B y) (origin B z) (subst (λ w. IsIn w (own_variables q)) (sym own.0) own.1) (s.owned z in_s) f in
+          s.fresh y (subst (λ w. IsIn w S) (sym same ∙ own.0) (s.origins z in_s)) (in-left xs _ y in_y))
           (in-cases done (free p (CloseAll xs ls k) ++ ws) z i);
-      }, group-homes xs ls k S ws R s (done ++ y ∷ []) ys (e ∙ sym (append_assoc done (y ∷ []) ys)))
+    },
+    group-homes xs ls k S ws R s (done ++ y ∷ []) ys (e ∙ sym (append_assoc done (y ∷ []) ys)),
+  )
     where
       in_y : IsIn y xs
       in_y = subst (IsIn y) (sym e) (in-right done (y ∷ ys) y (inl refl))
@@ -463,9 +466,10 @@ module _ (p : AnfTree) (all : List Noted) (rules : KeepsRules p) (q : ProcTree) 
 
     bound-ok : (x : ℕ) (op : Op) (k : Block) (S ws R : List ℕ) → Scope (Bind x op k) S ws R →
         ArmsOk p all (slot_of q) (frame_size q) op (without (x ∷ []) (free p k) ++ ws)
-    bound-ok x (Branch a b d) k S ws R s =
-        (tests a b d (in-each operation B (Bind x (Branch a b d) k) (Branch a b d) (s.inside _ (inl refl)) (inl refl)),
-        (block-ok b S _ _ (scope-arm x a b d k b S ws R (first-arm a b d) s), block-ok d S _ _ (scope-arm x a b d k d S ws R (second-arm a b d) s)))
+    bound-ok x (Branch a b d) k S ws R s = (
+      tests a b d (in-each operation B (Bind x (Branch a b d) k) (Branch a b d) (s.inside _ (inl refl)) (inl refl)),
+      (block-ok b S _ _ (scope-arm x a b d k b S ws R (first-arm a b d) s), block-ok d S _ _ (scope-arm x a b d k d S ws R (second-arm a b d) s)),
+    )
     bound-ok x (Atom a) k S ws R s = bound-plain x (Atom a) k S ws R s refl
     bound-ok x (Global g r) k S ws R s = bound-plain x (Global g r) k S ws R s refl
     bound-ok x (SetGlobal g a r) k S ws R s = bound-plain x (SetGlobal g a r) k S ws R s refl
@@ -480,9 +484,10 @@ module _ (p : AnfTree) (all : List Noted) (rules : KeepsRules p) (q : ProcTree) 
     bound-ok x (Apply f a r) k S ws R s = bound-plain x (Apply f a r) k S ws R s refl
 
     tail-ok : (op : Op) (S ws R : List ℕ) → Scope (Tail op) S ws R → ArmsOk p all (slot_of q) (frame_size q) op ws
-    tail-ok (Branch a b d) S ws R s =
-        (tests a b d (in-each operation B (Tail (Branch a b d)) (Branch a b d) (s.inside _ (inl refl)) (inl refl)),
-        (block-ok b S ws R (scope-tail a b d b S ws R (first-arm a b d) s), block-ok d S ws R (scope-tail a b d d S ws R (second-arm a b d) s)))
+    tail-ok (Branch a b d) S ws R s = (
+      tests a b d (in-each operation B (Tail (Branch a b d)) (Branch a b d) (s.inside _ (inl refl)) (inl refl)),
+      (block-ok b S ws R (scope-tail a b d b S ws R (first-arm a b d) s), block-ok d S ws R (scope-tail a b d d S ws R (second-arm a b d) s)),
+    )
     tail-ok (Atom a) S ws R s = tail-plain (Atom a) S ws R s refl
     tail-ok (Global g r) S ws R s = tail-plain (Global g r) S ws R s refl
     tail-ok (SetGlobal g a r) S ws R s = tail-plain (SetGlobal g a r) S ws R s refl

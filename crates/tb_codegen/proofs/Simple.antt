@@ -232,13 +232,13 @@ module _ (p : AnfTree) (notes : List Note) (limit : ℕ) where
         ⊎_elim
         (λ (yes : is_false_word h0.word ≡ true).
         let e : run (step_of p notes) 2 (source p notes limit x (Eval (InBlock k) r) fr) ≡ source p notes limit x (Eval (InBlock d) (gather (free p d) r)) st.0 =
-            ap (step_of p notes) first ∙ rw (v, sym same ∙ yes, ind) refl in
+        ap (step_of p notes) first ∙ rw (v, sym same ∙ yes, ind) refl in
         rw (h0.here, yes) (lands_block p notes limit (record x { pc = l }) d r _ 2 _ sd e (omega arith) n2 st.2
         (holds-from p x.st x.st w w (λ k i. i) (r ∷ rs) _ x.regs slots _ new2 old h from2 (under p x.st x.st o (free p (settled d)) [] r (gather (free p (settled d)) r) rs (λ y i. lookup-gather (free p (settled d)) r y i)))
         o2 f mem len))
         (λ (no : is_false_word h0.word ≡ false).
         let e : run (step_of p notes) 2 (source p notes limit x (Eval (InBlock k) r) fr) ≡ source p notes limit x (Eval (InBlock b) (gather (free p b) r)) st.0 =
-            ap (step_of p notes) first ∙ rw (v, sym same ∙ no, inb) refl in
+        ap (step_of p notes) first ∙ rw (v, sym same ∙ no, inb) refl in
         rw (h0.here, no) (lands_block p notes limit (record x { pc = x.pc + 1 }) b r _ 2 _ sb e (omega arith) n1 st.2
         (holds-from p x.st x.st w w (λ k i. i) (r ∷ rs) _ x.regs slots _ new1 old h from1 (under p x.st x.st o (free p (settled b)) [] r (gather (free p (settled b)) r) rs (λ y i. lookup-gather (free p (settled b)) r y i)))
         o2 f mem len))

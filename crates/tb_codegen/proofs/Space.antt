@@ -72,9 +72,9 @@ module _ (p : AnfTree) (notes : List Note) (c : Assembled) (fo : Follows p notes
       let one = λ (a b d : ℕ) (x : P p notes w (graph k) a d) (y : P p notes w (graph k) b d). s.one_address x.0 y.0 a b d x.1 y.1 in
       let within = λ (a b : ℕ) (x : P p notes w (graph k) a b). below_linked s a b x in
       let f1 = total-partners (P p notes w (graph k)) (λ a. closure_count (slice_get m.heap a)) (λ l. of_item closures_in (slice_get k.store l)) (object_graph c m) (graph k) (closed_graph p k)
-          (record { one_each = one; within = within; sizes = λ a b x. closures_le s a b x; at_roots = roots; at_edges = edges w o globals m k s }) in
+      (record { one_each = one; within = within; sizes = λ a b x. closures_le s a b x; at_roots = roots; at_edges = edges w o globals m k s }) in
       let f2 = total-partners (P p notes w (graph k)) (λ a. data_size (slice_get m.heap a)) (λ l. of_item words_in (slice_get k.store l)) (object_graph c m) (graph k) (closed_graph p k)
-          (record { one_each = one; within = within; sizes = λ a b x. words_le s a b x; at_roots = roots; at_edges = edges w o globals m k s }) in
+      (record { one_each = one; within = within; sizes = λ a b x. words_le s a b x; at_roots = roots; at_edges = edges w o globals m k s }) in
       (omega arith, f2)
     where
       below_linked : Stores p notes w o globals m.heap k.store → (a b : ℕ) → P p notes w (graph k) a b → b < length k.store
@@ -88,9 +88,9 @@ module _ (p : AnfTree) (notes : List Note) (c : Assembled) (fo : Follows p notes
   totals w o globals m k s (c_odd odd n hd roots odd_edges) =
       let one = λ (a b d : ℕ) (x : P p notes w (graph k) a d) (y : P p notes w (graph k) b d). s.one_address x.0 y.0 a b d x.1 y.1 in
       let f1 = total-partners_but (P p notes w (graph k)) (λ a. closure_count (slice_get m.heap a)) (λ l. of_item closures_in (slice_get k.store l)) (object_graph c m) (graph k) odd (closed_graph p k)
-          (record { one_each = one; within = λ a b x. below_linked s a b x; sizes = λ a b x. closures_le s a b x; at_roots = roots; at_edges = edges w o globals m k s; odd_edges = odd_edges }) in
+      (record { one_each = one; within = λ a b x. below_linked s a b x; sizes = λ a b x. closures_le s a b x; at_roots = roots; at_edges = edges w o globals m k s; odd_edges = odd_edges }) in
       let f2 = total-partners_but (P p notes w (graph k)) (λ a. data_size (slice_get m.heap a)) (λ l. of_item words_in (slice_get k.store l)) (object_graph c m) (graph k) odd (closed_graph p k)
-          (record { one_each = one; within = λ a b x. below_linked s a b x; sizes = λ a b x. words_le s a b x; at_roots = roots; at_edges = edges w o globals m k s; odd_edges = odd_edges }) in
+      (record { one_each = one; within = λ a b x. below_linked s a b x; sizes = λ a b x. words_le s a b x; at_roots = roots; at_edges = edges w o globals m k s; odd_edges = odd_edges }) in
       let e1 : closure_count (slice_get m.heap odd) ≡ 1 = ap closure_count hd in
       let e2 : data_size (slice_get m.heap odd) ≡ 0 = ap data_size hd in
       (omega arith, omega arith)
@@ -186,7 +186,7 @@ module _ (p : AnfTree) (notes : List Note) (c : Assembled) (fo : Follows p notes
     live_entry m pt own es a n lt e =
         let q = fo.maps m.pc _ n in
         let e2 : is_bit_set (register_bits es 17) a && not (counts_now c m && is_beyond (operand_count (slice_get m.registers 16)) a) ≡ true =
-            subst (λ o. on_some o false (λ map. is_bit_set map.regs a) && not (counts_now c m && is_beyond (operand_count (slice_get m.registers 16)) a) ≡ true) q e in
+        subst (λ o. on_some o false (λ map. is_bit_set map.regs a) && not (counts_now c m && is_beyond (operand_count (slice_get m.registers 16)) a) ≡ true) q e in
         register_entry es a (sym (digit es 17 a lt) ∙ and_left _ _ e2)
 
     -- what stands somewhere can be reached, but for the procedure itself
@@ -347,7 +347,7 @@ module _ (p : AnfTree) (notes : List Note) (c : Assembled) (fo : Follows p notes
         (a ≡ 0) ⊎ (((1 ≤ a) × (a ≤ n)) ⊎ (a ≡ 16))
     counted_live m n a em ec er lt e =
         let e2 : is_bit_set 73727 a && not (counts_now c m && is_beyond (operand_count (slice_get m.registers 16)) a) ≡ true =
-            subst (λ o. on_some o false (λ map. is_bit_set map.regs a) && not (counts_now c m && is_beyond (operand_count (slice_get m.registers 16)) a) ≡ true) em e in
+        subst (λ o. on_some o false (λ map. is_bit_set map.regs a) && not (counts_now c m && is_beyond (operand_count (slice_get m.registers 16)) a) ≡ true) em e in
         let e3 : is_bit_set 73727 a && not (is_beyond n a) ≡ true = subst₂ (λ b o. is_bit_set 73727 a && not (b && is_beyond (operand_count o) a) ≡ true) ec er e2 in
         ⊎_elim
         (λ le. ⊎_elim (λ z. inl (omega arith)) (λ some. inr (inl (some, not_beyond n a some le (and_right _ _ e3)))) (cases_lt a 1))
@@ -422,7 +422,7 @@ module _ (p : AnfTree) (notes : List Note) (c : Assembled) (fo : Follows p notes
         let ch = from_chosen (is_live_register c m) 0 m.registers m.registers u (λ i u e. let z : i ≡ 0 + i = omega arith in subst (λ n. slice_get m.registers n ≡ Some u) z e) i in
         let lt = get-within m.registers ch.index u ch.here in
         let e2 : is_bit_set (register_bits map 17) ch.index && not (counts_now c m && is_beyond (operand_count (slice_get m.registers 16)) ch.index) ≡ true =
-            subst (λ o. on_some o false (λ map. is_bit_set map.regs ch.index) && not (counts_now c m && is_beyond (operand_count (slice_get m.registers 16)) ch.index) ≡ true) em ch.passes in
+        subst (λ o. on_some o false (λ map. is_bit_set map.regs ch.index) && not (counts_now c m && is_beyond (operand_count (slice_get m.registers 16)) ch.index) ≡ true) em ch.passes in
         let en = register_entry map ch.index (sym (digit map 17 ch.index (omega arith)) ∙ and_left _ _ e2) in
         let q = st.begins_lifted (Reg ch.index) en.symbol en.entry in
         let g = param_word w m.registers ps vs q.0 q.1 1 ins q.5 (sym count) in

@@ -20,10 +20,12 @@ use Rattle.tb_codegen.proofs.Rel.{BytesAt, Chained, ch_end, ch_more, Fill, Grows
 
 -- bytes in words that agree
 bytes_agree : (heap heap2 : List Word) (a b : ℕ) (cs : List ℕ) → a + (length cs + 3) / 4 ≤ b → Agree heap heap2 a b → BytesAt heap a cs → BytesAt heap2 a cs
-bytes_agree heap heap2 a b cs le h r = record { bytes = λ k c e.
-    let t = r.bytes k c e in
-    let lt = get-within cs k c e in
-    (t.0, h.agree (a + k / 4) _ (omega arith) (omega arith) t.1, t.2, t.3) }
+bytes_agree heap heap2 a b cs le h r = record {
+  bytes = λ k c e.
+      let t = r.bytes k c e in
+      let lt = get-within cs k c e in
+      (t.0, h.agree (a + k / 4) _ (omega arith) (omega arith) t.1, t.2, t.3);
+}
 
 agree_from : (heap heap2 : List Word) (a b c d : ℕ) → a ≤ c → d ≤ b → Agree heap heap2 a b → Agree heap heap2 c d
 agree_from heap heap2 a b c d l m h = record { agree = λ k u le lt e. h.agree k u (omega arith) (omega arith) e }
@@ -124,14 +126,22 @@ module _ (p : AnfTree) (notes : List Note) where
             (λ (q : l ≡ m).
             let sa : a ≡ b = s.one_address t v a b l i (subst (λ m. IsIn (Lk v b m) w) (sym q) h) in
             let st' : t ≡ v = one_tag w o globals heap st t v a b l s i (subst (λ m. IsIn (Lk v b m) w) (sym q) h) in
-            record { item = j; there = subst (λ m. slice_get st2 m ≡ Some j) q there; tag = sym st' ∙ tg;
-              rel = subst₂ (λ b m. ORel p notes w (slice_set heap k u) (fill_of o2 m) b j) sa q rel })
+            record {
+              item = j;
+              there = subst (λ m. slice_get st2 m ≡ Some j) q there;
+              tag = sym st' ∙ tg;
+              rel = subst₂ (λ b m. ORel p notes w (slice_set heap k u) (fill_of o2 m) b j) sa q rel;
+            })
             (λ ne.
             let d = s.linked v b m h in
             let out : (k < b) ⊎ (b + words_from (slice_get heap b) ≤ k) = ⊎_elim (λ x. inl (omega arith)) (λ x. inr (omega arith)) (s.apart t v a b l m i h ne) in
-            record { item = d.item; there = others m d.item ne d.there; tag = d.tag;
+            record {
+              item = d.item;
+              there = others m d.item ne d.there;
+              tag = d.tag;
               rel = subst (λ q. ORel p notes w (slice_set heap k u) q b d.item) (sym (fills m ne))
-                  (o_agree w w (λ k i. i) heap (slice_set heap k u) (fill_of o m) b _ d.item refl (agree_set heap k u b (b + words_from (slice_get heap b)) out) d.rel) })
+                  (o_agree w w (λ k i. i) heap (slice_set heap k u) (fill_of o m) b _ d.item refl (agree_set heap k u b (b + words_from (slice_get heap b)) out) d.rel);
+            })
             (cases_eq l m);
         one_address = s.one_address;
         before = λ v b m h. before m (s.before v b m h);
@@ -166,9 +176,13 @@ module _ (p : AnfTree) (notes : List Note) where
             (record { item = i; there = there; tag = refl; rel = rel })))
             (λ h.
             let d = s.linked t b m h in
-            record { item = d.item; there = keep m d.item d.there; tag = d.tag;
+            record {
+              item = d.item;
+              there = keep m d.item d.there;
+              tag = d.tag;
               rel = subst (λ q. ORel p notes z (heap ++ ws) q b d.item) (sym (fills t b m h))
-                  (o_agree w z (λ k i. inr i) heap (heap ++ ws) (fill_of o m) b _ d.item refl (agree_left heap ws b _) d.rel) })
+                  (o_agree w z (λ k i. inr i) heap (heap ++ ws) (fill_of o m) b _ d.item refl (agree_left heap ws b _) d.rel);
+            })
             h;
         one_address = λ t v a b m h g. ⊎_elim
             (λ e. ⊎_elim (λ f. sym (lk_a _ t _ a _ m e) ∙ lk_a _ v _ b _ m f) (λ g. absurd (fresh v b (subst (λ m. IsIn (Lk v b m) w) (sym (lk_l _ t _ a _ m e)) g))) g)

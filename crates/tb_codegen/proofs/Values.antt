@@ -41,14 +41,16 @@ past_empty v u rs (Capture j) e = cc
 -- the map at a return point
 returned : (p : AnfTree) (st : List Item) (w : World) (v : Value) (u : Word) (rs : List Env) (regs slots : List Word) (map : List Entry) →
     slice_get regs 16 ≡ Some u → WRel w u v → Saved w rs slots map → Holds p st w (Env.Bind 0 v Empty ∷ rs) regs slots map
-returned p st w v u rs regs slots map here uv s = record { holds = λ q z i. ⊎_elim
-    (λ k. subst (λ q. HasAny p st w (Env.Bind 0 v Empty ∷ rs) regs slots q z) (sym k.0)
-    (subst (λ z. HasAny p st w (Env.Bind 0 v Empty ∷ rs) regs slots (Reg 16) z) (sym k.1)
-    (record { value = v; word = u; means = m_name refl; here = here; rel = uv })))
-    (λ k. let a = k.2 in
-    subst (λ q. HasAny p st w (Env.Bind 0 v Empty ∷ rs) regs slots q z) (sym k.1)
-    (record { value = a.value; word = a.word; means = m_name (past_empty v a.value rs z a.means); here = a.here; rel = a.rel }))
-    (s.saved q z i) }
+returned p st w v u rs regs slots map here uv s = record {
+  holds = λ q z i. ⊎_elim
+      (λ k. subst (λ q. HasAny p st w (Env.Bind 0 v Empty ∷ rs) regs slots q z) (sym k.0)
+      (subst (λ z. HasAny p st w (Env.Bind 0 v Empty ∷ rs) regs slots (Reg 16) z) (sym k.1)
+      (record { value = v; word = u; means = m_name refl; here = here; rel = uv })))
+      (λ k. let a = k.2 in
+      subst (λ q. HasAny p st w (Env.Bind 0 v Empty ∷ rs) regs slots q z) (sym k.1)
+      (record { value = a.value; word = a.word; means = m_name (past_empty v a.value rs z a.means); here = a.here; rel = a.rel }))
+      (s.saved q z i);
+}
 
 module _ (p : AnfTree) (notes : List Note) (limit : ℕ) (c : Assembled) where
   pub step_given : (x : Still) (a : ℕ) {w : World} {s size l : ℕ} {y : ℕ} {k : Block} {js : Waiting} {old new : List Entry} {rs : List Env}
@@ -64,7 +66,7 @@ module _ (p : AnfTree) (notes : List Note) (limit : ℕ) (c : Assembled) where
       let uv : WRel w h0.word v = subst (λ z. WRel w h0.word z) (sym (first_is p x.st v h0.value (r ∷ rs) h0.means)) h0.rel in
       let few : s < length slots = omega arith in
       let hh = holds-slot p x.st x.st w (Env.Bind 0 v Empty ∷ (r ∷ rs)) (gather (free p (settled k)) (Env.Bind y v r) ∷ rs) x.regs slots s _ _ new old h0.word few h into
-          (new-put p x.st w h0.word y (free p (settled k)) v r rs uv) (given p x.st x.st y (free p (settled k)) v r rs) in
+      (new-put p x.st w h0.word y (free p (settled k)) v r rs uv) (given p x.st x.st y (free p (settled k)) v r rs) in
       rw (lt-ltb s (length slots) few, h0.here) (lands_block p notes limit (record x { pc = x.pc + 1 }) k (Env.Bind y v r) _ 1 _ se refl (omega arith) n j hh
       (o_here (length-set slots s h0.word ∙ e)) f mem len)
 
@@ -76,7 +78,7 @@ module _ (p : AnfTree) (notes : List Note) (limit : ℕ) (c : Assembled) where
       Sim p notes limit (done p notes limit c x top (I.Imm d (imm_bits unspecified))) (limit - x.pc) (source p notes limit x control gs)
   step_unspecified x {w = w} {d = d} {old = old} {new = new} {slots = slots} lt into n (at_unspecified {rs = rs} j) h o f mem len within =
       let hh = holds-into p x.st x.st w w (λ k i. i) (Env.Bind 0 Unspecified Empty ∷ rs) (Env.Bind 0 Unspecified Empty ∷ rs) x.regs slots d _ _ new old unspecified (omega arith) h into
-          (first-put p x.st w unspecified Unspecified rs w_unspecified) (same-means p x.st (Env.Bind 0 Unspecified Empty ∷ rs)) in
+      (first-put p x.st w unspecified Unspecified rs w_unspecified) (same-means p x.st (Env.Bind 0 Unspecified Empty ∷ rs)) in
       quiet p notes limit x (record x { pc = x.pc + 1; regs = slice_set x.regs d unspecified }) n (at_value Unspecified j) hh o f mem
       (length-set x.regs d unspecified ∙ len) (omega arith) within
 

@@ -65,11 +65,13 @@ module _ (p : AnfTree) (all : List Noted) where
   -- the operands of a lambda, once they are counted
   starts-of : (n : ℕ) (q : ProcTree) → LambdaOk n q → IsApart q.params →
       Starts n q.params (free p (settled q.body)) (itself_map n q.captured ++ operands_map (free p q.body) 1 q.params)
-  starts-of n q h ap_ps = record { begins = λ r s i. ⊎_elim
-      (λ j. let e = itself-only n q.captured r s j in inl (entry-spot _ r _ s e, entry-symbol _ r _ s e))
-      (λ j. let o = operands-in (free p q.body) 1 q.params ap_ps r s j in
+  starts-of n q h ap_ps = record {
+    begins = λ r s i. ⊎_elim
+        (λ j. let e = itself-only n q.captured r s j in inl (entry-spot _ r _ s e, entry-symbol _ r _ s e))
+        (λ j. let o = operands-in (free p q.body) 1 q.params ap_ps r s j in
         inr (o.var, o.register, o.spot, o.symbol, subst (IsIn o.var) (sym h.names.settles) o.used, o.at))
-      (in-cases (itself_map n q.captured) _ _ i) }
+        (in-cases (itself_map n q.captured) _ _ i);
+  }
 
   counted-rest : (q : ProcTree) → 1 ≤ length q.params → suc (length (own_formals true q.params)) ≡ length q.params
   counted-rest q h = let e = length-take (length q.params - 1) q.params in omega (arith, e, h)
@@ -99,8 +101,10 @@ module _ (p : AnfTree) (all : List Noted) where
       (Does (I.Proc n) (AtLifted n (operands_map (free p q.body) 1 q.params)) None ∷ [])
       (Some (Inside (block_point q.body ToCaller) Away (itself_map n xs ++ operands_map (free p q.body) 1 q.params)))) (sym a.0)
       (c_does (ok_lifted n q (empties p all (slot_of q) (frame_size q) q.body [] h.block) (record { there = h.there; lifted = e; alone = a.0; no_rest = a.1 })
-      (record { begins_lifted = λ r s i. let o = operands-in (free p q.body) 1 q.params ap_ps r s i in
-        (o.var, o.register, o.spot, o.symbol, subst (IsIn o.var) (sym h.names.settles) o.used, o.at) })
+      (record {
+        begins_lifted = λ r s i. let o = operands-in (free p q.body) 1 q.params ap_ps r s i in
+            (o.var, o.register, o.spot, o.symbol, subst (IsIn o.var) (sym h.names.settles) o.used, o.at);
+      })
       (from-refl _)) c_end)
 
   -- a lambda
