@@ -17,7 +17,7 @@ use Rattle.tb_ir.specs.TreeMachine as T
 use Rattle.tb_ir.specs.TreeMachine.{line_of, numbers}
 use Rattle.tb_anf.proofs.Apart.{own, IsName, names-bound}
 use Rattle.tb_anf.proofs.Calls.{IsForeign, Origin, Grounded, MayClose, MayEnter, Calls}
-use Rattle.tb_anf.proofs.Lines.{node-permutation}
+use Rattle.tb_anf.proofs.LineLemmas.{node-permutation}
 use Rattle.tb_anf.proofs.Names.{IsLong, ProperNode, Sound}
 use Rattle.tb_anf.proofs.Operands.{apart-both, free-at, nodes-at, every-left}
 use Rattle.tb_anf.proofs.Scopes.{every-in, in-node, IsScoped, scoped, free-of-lambda}

@@ -13,7 +13,7 @@ use Rattle.tb_ir.specs.Rules.{IsLambda, IsShaped, AreAdded, nodes, nodes_of, nod
 use Rattle.tb_anf.proofs.Apart.{of_nodes-append}
 use Rattle.tb_anf.proofs.Bodies.{Facts, all-facts, inner, long_shaped, its_lambda, every-zip}
 use Rattle.tb_anf.proofs.InScope.{Good, Makes, named_in, times-append, times-in, reached}
-use Rattle.tb_anf.proofs.Lines.{node-permutation}
+use Rattle.tb_anf.proofs.LineLemmas.{node-permutation}
 use Rattle.tb_anf.proofs.Names.{IsLong}
 use Rattle.tb_anf.proofs.Operations.{NamesOnly, FitNode}
 use Rattle.tb_ir.specs.Width.{formals_of}

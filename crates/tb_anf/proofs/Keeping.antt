@@ -21,7 +21,7 @@ use Rattle.tb_anf.proofs.Rel.{top}
 use Rattle.tb_anf.proofs.Shape.{alike}
 use Rattle.tb_anf.proofs.States as S
 use Rattle.tb_anf.proofs.States.{Related, Stored}
-use Rattle.tb_anf.proofs.Steps.{turns}
+use Rattle.tb_anf.proofs.WholeSteps.{turns}
 use Rattle.tb_anf.proofs.Turns.{taken, fewer}
 use Rattle.tb_anf.proofs.Weights.{state_weight}
 

@@ -23,11 +23,11 @@ pub mod Groups
 pub mod OperandMoves
 pub mod Gives
 pub mod Enters
-pub mod Steps
+pub mod WholeSteps
 pub mod TreeParts
 pub mod Apart
 pub mod Scopes
-pub mod Lines
+pub mod LineLemmas
 pub mod Variables
 pub mod Bodies
 pub mod Keeping
@@ -38,3 +38,5 @@ pub mod Cells
 pub mod Widths
 pub mod NoWider
 pub mod WiderLemmas
+pub mod code
+pub mod rules

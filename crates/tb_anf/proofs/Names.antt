@@ -61,6 +61,10 @@ pub record Proper (x : Context) (calls : Form → Type 0) (s : ℕ) (f : Form) :
   pub long : IsLong f
   pub may : calls f
 
+-- no condition on the lambda expressions of a node
+abbrev pub Any : Form → Type 0
+Any f = Unit {0}
+
 abbrev pub ProperNode : Context → (Form → Type 0) → Tree → Type 0
 ProperNode x calls (Node p s f) = Proper x calls s f
 

@@ -1,3 +1,4 @@
 pub mod NormalForm
 pub mod Wider
 pub mod Examples
+pub mod calls

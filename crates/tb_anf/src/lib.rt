@@ -1,8 +1,16 @@
 //! A-normal form: each operation of a program is bound once, in the order in which operands are evaluated. The
-//! definition is `NormalForm`; `laws` says what a program in A-normal form keeps, with the definition `Wider`.
+//! definition is `NormalForm`, and `normal_procs` computes the procs; `laws` says what a program in A-normal form keeps,
+//! with the definition `Wider`.
 #![tactic(auto)]
 
+mod captures;
 mod examples;
+pub mod kept;
 pub mod laws;
+mod lines;
+mod normal;
+mod pass;
+mod steps;
 
 pub use examples::worked_programs;
+pub use normal::normal_procs;

@@ -1,26 +1,24 @@
 -- All items of a program have fields in their ranges, and no frame is larger than the program's width.
-use Rattle.std.proofs.Common.{◌≡◌, ℕ, zero, suc, ◌<◌, ◌≤◌, ◌+◌, ◌-◌, ◌⊎◌, Bool, true, false, cond, List, [], ◌∷◌, ◌++◌, length, length-append, map, take, Option, Some, None, refl, sym, ap, ◌∙◌, subst, inl, inr, ⊎_elim, lit<, lit≤, arith}
+use Rattle.std.proofs.Common.{◌≡◌, ℕ, suc, ◌<◌, ◌≤◌, ◌+◌, ◌-◌, ◌⊎◌, Bool, true, false, cond, List, [], ◌∷◌, ◌++◌, length, length-append, Some, None, refl, sym, subst, inl, inr, lit≤, arith}
 use Rattle.std.proofs.lemmas.List.{length-take}
-use Rattle.tb_prim.specs.Primitives.{arity_of}
 use Rattle.tb_semantics.specs.Graph.{IsIn}
 use Rattle.tb_semantics.proofs.ListLemmas.{in-left, in-right}
 use Rattle.tb_core.specs.FreeVariables.{is_in}
-use Rattle.tb_ir.specs.AnfTree.{Block, Op, Atom, Global, SetGlobal, DefGlobal, PrimUse, NewCell, CellGet, CellSet, Close, Call, Direct, Apply, Branch, ProcTree, AnfTree}
-use Rattle.tb_ir.specs.AnfMachine.{own_formals}
-use Rattle.tb_ir.specs.AnfRules.{IsShaped, KeepsRules, Numbered, blocks, forms_of, lambdas_of, of_each, operation, plain_binders}
-use Rattle.tb_ir.specs.AnfWidth.{proc_width, width_of}
+use Rattle.tb_ir.specs.AnfTree.{Op, Atom, Global, SetGlobal, DefGlobal, PrimUse, NewCell, CellGet, CellSet, Close, Call, Direct, Apply, Branch, ProcTree, AnfTree}
+use Rattle.tb_ir.specs.AnfRules.{IsShaped, KeepsRules, blocks, forms_of, lambdas_of, of_each, operation, plain_binders}
+use Rattle.tb_ir.specs.AnfWidth.{width_of}
 use Rattle.tb_mac.specs.declared.code.Instr.TheVariants as I
 use Rattle.tb_codegen.specs.Fits.{Fits}
 use Rattle.tb_codegen.specs.Homes.{frame_size, slot_of}
-use Rattle.tb_codegen.specs.Notes.{Entry, ToCaller, ToTop, Point, AtValue, Note, Inside, AtProc, AtArgs, AtLifted, Away, Here, Noted, Mark, Does}
-use Rattle.tb_codegen.specs.Generate.{block_point, body_of, captured_in, code_block, code_form, code_forms, code_lambda, code_lambdas, counting, entry, frame_made, itself_map, labels_in, labels_within, noted_items, operands_map, stores_captured, stores_operands}
+use Rattle.tb_codegen.specs.Notes.{Entry, ToCaller, ToTop, Point, AtValue, Inside, AtProc, AtArgs, AtLifted, Away, Here, Noted, Does}
+use Rattle.tb_codegen.specs.Generate.{block_point, body_of, code_block, code_form, code_forms, code_lambda, code_lambdas, counting, entry, frame_made, labels_in, labels_within, noted_items, operands_map, stores_captured, stores_operands}
 use Rattle.tb_codegen.specs.PlainCode.{entries}
 use Rattle.tb_codegen.proofs.Ok.{free}
 use Rattle.tb_codegen.proofs.Fields.{Arity, below-largest, block-of, captured-few, plain-within}
 use Rattle.tb_codegen.proofs.Namings.{every-at}
 use Rattle.tb_codegen.proofs.Procs.{form-in, lambda-in}
 use Rattle.tb_codegen.proofs.Programs.{block-keeps, body-ok, entering, keeps, named-in, op-block}
-use Rattle.tb_codegen.proofs.Ranges.{AllGood, BlockGood, Good, block-good, entries-length, few_slots, good-append, store-good}
+use Rattle.tb_codegen.proofs.Ranges.{AllGood, BlockGood, Good, block-good, entries-length, good-append, store-good}
 
 module _ (p : AnfTree) (rules : KeepsRules p) (fits : Fits p) (narrow : width_of p ≤ 1000) where
   abbrev w : ℕ

@@ -1,5 +1,5 @@
 -- `apply`: the walk of a list, and the entry of a procedure with its elements.
-use Rattle.std.proofs.Common.{◌≡◌, refl, sym, ◌∙◌, subst, subst₂, ap, ℕ, zero, suc, ◌+◌, ◌-◌, ◌<◌, ◌≤◌, ◌⊎◌, ◌==◌, Bool, cond, true, false, inl, inr, ⊎_elim, arith, List, [], ◌∷◌, ◌++◌, length, Option, Some, None, slice_get, slice_set, length-set}
+use Rattle.std.proofs.Common.{◌≡◌, refl, sym, ◌∙◌, subst, subst₂, ap, ℕ, zero, suc, ◌+◌, ◌<◌, ◌≤◌, ◌⊎◌, inl, inr, ⊎_elim, arith, List, [], ◌∷◌, ◌++◌, length, Option, Some, None, slice_get, slice_set, length-set}
 use Rattle.std.specs.Prelude.{pos}
 use Rattle.tb_prim.specs.declared.event.Cause.{Cause}
 use Rattle.tb_prim.specs.declared.event.Event.{Event}
@@ -7,36 +7,34 @@ use Rattle.tb_prim.specs.declared.event.Stop.{Stop}
 use Rattle.tb_prim.specs.declared.constant.Const.{Const}
 use Rattle.tb_prim.specs.declared.place.Place.{Place}
 use Rattle.tb_semantics.specs.Graph.{IsIn, Reaches, root, child, below}
-use Rattle.tb_semantics.specs.Runs.{run}
 use Rattle.tb_semantics.proofs.ListLemmas.{in-cases, in-left, in-right}
-use Rattle.tb_core.specs.Store.{Value, At, Truth, Nil, Unspecified, Undefined, EndObject, Object, Pair, Vec, Str, Sym, Content, Holds as HoldsObject, Procedure, Other}
+use Rattle.tb_core.specs.Store.{Value, At, Truth, Nil, Unspecified, Undefined, EndObject, Pair, Vec, Str, Sym, Content, Holds as HoldsObject, Procedure, Other}
 use Rattle.tb_core.specs.Lists as L
 use Rattle.tb_core.specs.Space.{value_locations, values_locations}
 use Rattle.tb_ir.specs.TreeMachine.{env_values}
-use Rattle.tb_ir.specs.AnfTree.{Operand, Block, Op, Apply, AnfTree}
-use Rattle.tb_ir.specs.AnfMachine.{AnfConfig, AnfFrames, AnfState, AnfWork, Code, InBlock, InOp, atom_value, atom_values, free_of_atom, free_of_atoms, free_op, language}
-use Rattle.tb_ir.specs.Machine.{Closure, Control, Env, Empty, Eval, Item, Cell, Obj, Clo, Running, Stopped, bind_all, content_of, contents, fail, gather, apply as apply_source}
+use Rattle.tb_ir.specs.AnfTree.{Operand, Block, Apply, AnfTree}
+use Rattle.tb_ir.specs.AnfMachine.{AnfConfig, AnfFrames, InBlock, InOp, atom_values, free_of_atom, free_op, language}
+use Rattle.tb_ir.specs.Machine.{Closure, Env, Empty, Eval, Item, Cell, Obj, Clo, bind_all, content_of, contents, fail, gather, apply as apply_source}
 use Rattle.tb_ir.specs.Space.{locations_of, store_graph}
-use Rattle.tb_mac.specs.declared.code.Instr.{Instr}
 use Rattle.tb_mac.specs.declared.code.Instr.TheVariants as I
 use Rattle.tb_mac.specs.declared.word.Word.{Word}
 use Rattle.tb_mac.specs.declared.word.Word.TheVariants as W
 use Rattle.tb_mac.specs.Assembled.{Assembled}
-use Rattle.tb_mac.specs.Effects.{Heap, pair_at, procedure_at}
-use Rattle.tb_mac.specs.Frames.{Frame as MacFrame, framed_perform}
+use Rattle.tb_mac.specs.Effects.{procedure_at}
+use Rattle.tb_mac.specs.Frames.{Frame as MacFrame}
 use Rattle.tb_mac.specs.MacStep as S
 use Rattle.tb_mac.specs.MacStep.{place_of, put_words, walk_list}
 use Rattle.tb_mac.specs.Objects.{procedure_kind, procedure_tag}
-use Rattle.tb_codegen.specs.Notes.{Entry, Stands, Spot, Reg, Slot, Symbol, Constant, Own, Note, Inside, AtBlock, AtProc, Waiting, symbol_of}
+use Rattle.tb_codegen.specs.Notes.{Entry, Stands, Spot, Reg, Constant, Own, Note, Inside, AtBlock, AtProc, Waiting, symbol_of}
 use Rattle.tb_codegen.specs.Generate.{captured_in}
-use Rattle.tb_codegen.proofs.Calls.{Kind, k_at, k_data, kind_of, NoClo, n_cell, n_object, calls_to, no_procedure, operand_location, operands_location}
+use Rattle.tb_codegen.proofs.Calls.{Kind, k_at, k_data, kind_of, n_cell, n_object, calls_to, no_procedure, operand_location}
 use Rattle.tb_codegen.proofs.Changes.{Args, no_args, an_arg, OpAt}
 use Rattle.tb_codegen.proofs.Envs.{get-set, get-set-other}
 use Rattle.tb_codegen.proofs.Moves.{done}
 use Rattle.tb_codegen.proofs.Ok.{Calls, HasNote, IsWritten, free}
-use Rattle.tb_codegen.proofs.Operands.{Opers, op_none, op_more, at_op, atom_there, fails_op, op_starts, opers, opers_values, value-gather}
-use Rattle.tb_codegen.proofs.Rel.{AboutTo, AtCall, Closed, FsRel, Holds, Ins, in_none, in_more, JRel, Lk, Memory, ORel, o_cell, o_pair, o_vector, o_string, o_symbol, o_procedure, OwnRel, IsCut, Rel, r_calls, Stores, WRel, w_fix, w_char, w_false, w_true, w_nil, w_unspecified, w_undefined, w_end, w_at, WsRel, ws_none, ws_more, Whole, World, config, step_of, tag_of}
-use Rattle.tb_codegen.proofs.Sim.{Sim, Still, machine, source, target}
+use Rattle.tb_codegen.proofs.Operands.{atom_there, fails_op, op_starts, value-gather}
+use Rattle.tb_codegen.proofs.Rel.{AboutTo, AtCall, Closed, FsRel, Holds, Ins, in_none, in_more, JRel, Lk, Memory, ORel, o_cell, o_pair, o_vector, o_string, o_symbol, o_procedure, OwnRel, IsCut, r_calls, Stores, WRel, w_fix, w_char, w_false, w_true, w_nil, w_unspecified, w_undefined, w_end, w_at, WsRel, ws_none, ws_more, Whole, World, config, tag_of}
+use Rattle.tb_codegen.proofs.Sim.{Sim, Still, source}
 use Rattle.tb_codegen.proofs.Views.{View, x_data, x_pair, x_vector, x_string, x_symbol, x_cell, x_procedure, view}
 
 -- the walks of both sides

@@ -1,8 +1,7 @@
 -- Labels become numbers of instructions: a row of items with notes gives code that follows them.
-use Rattle.std.proofs.Common.{◌≡◌, ℕ, zero, suc, ◌<◌, ◌≤◌, ◌+◌, ◌==◌, Bool, true, false, true≢false, cond, List, [], ◌∷◌, ◌++◌, map, length, Option, Some, None, slice_get, refl, sym, ap, ◌∙◌, subst, inl, inr, ⊎_elim, append_assoc, append-nil, add-one, eq-eqb, eqb-true, arith}
+use Rattle.std.proofs.Common.{◌≡◌, ℕ, zero, suc, ◌<◌, ◌+◌, ◌==◌, Bool, true, false, true≢false, cond, List, [], ◌∷◌, ◌++◌, map, Option, Some, None, slice_get, refl, sym, ap, ◌∙◌, subst, inl, inr, append_assoc, append-nil, eq-eqb, eqb-true, arith}
 use Rattle.std.specs.Prelude.{find}
 use Rattle.std.specs.Option.{option_map}
-use Rattle.std.proofs.lemmas.Bool.{cases_Bool}
 use Rattle.std.proofs.lemmas.Option.{slice_get-map}
 use Rattle.tb_prim.specs.declared.place.Place.{Place}
 use Rattle.tb_prim.specs.declared.constant.Const.{Const}
@@ -13,16 +12,14 @@ use Rattle.tb_ir.specs.AnfMachine.{proc_of}
 use Rattle.tb_mac.specs.LiveWords.{is_lifted}
 use Rattle.tb_ir.specs.AnfTree.{Block, Op, ProcTree, AnfTree}
 use Rattle.tb_mac.specs.declared.code.Instr.{Instr}
-use Rattle.tb_mac.specs.declared.code.Instr.TheVariants as I
-use Rattle.tb_mac.specs.declared.code.LiveMap.{LiveMap}
 use Rattle.tb_mac.specs.declared.code.PlaceEntry.{PlaceEntry}
 use Rattle.tb_mac.specs.declared.item.Item.{Item}
-use Rattle.tb_mac.specs.Assemble.{assembled, instructions, item_maps, item_places, labels, number_of, placed_at, stands_at, with_target}
+use Rattle.tb_mac.specs.Assemble.{instructions, item_maps, item_places, labels, number_of, placed_at, stands_at, with_target}
 use Rattle.tb_mac.specs.MacStep.{place_of}
 use Rattle.tb_mac.specs.Words.{on_some}
 use Rattle.tb_codegen.specs.Notes.{Entry, Waiting, Own, Away, Here, Ready, Note, Inside, AtProc, AtArgs, AtLifted, Noted, Mark, Does, item_of, note_map}
 use Rattle.tb_codegen.specs.Operations.{constant}
-use Rattle.tb_codegen.specs.PlainCode.{code_of, parts_of}
+use Rattle.tb_codegen.specs.PlainCode.{code_of}
 use Rattle.tb_codegen.specs.Generate.{noted_items}
 use Rattle.tb_codegen.proofs.Ok.{Acts, a_quote, a_global, a_use0, a_use1, a_use2, a_use3, a_cell, a_get, Writes, w_set, w_define, w_cell, Calls, from_ready, from_away, Onward, not_yet, all_done, Ok, ok_load, ok_store, ok_const, ok_save, ok_setrtn, ok_pop, ok_jump, ok_form, ok_end, ok_act, ok_read, ok_write, ok_unspecified, ok_given, ok_branch, ok_return, ok_invoke, ok_apply, ok_direct, ok_proc, ok_lifted, ok_args, ok_args_ge, ok_capt, ok_close, ok_open, ok_fill, ok_filled, ok_first, ok_next, ok_stored, ok_word, HasNote, Further, Falls, Follows}
 use Rattle.tb_codegen.proofs.Chains.{Target, target, Chain, c_end, c_does, c_mark, c_dead}
@@ -218,7 +215,7 @@ module _ (p : AnfTree) (all : List Noted) where
   first-note a n is (c_mark h) = first-note a n _ h
 
   -- where a label stands is the note of its mark
-  label-note : (a : ℕ → ℕ) (base : ℕ) (o : Option Note) (is : List Noted) (l : ℕ) (n : Note) → Chain p all [] o is None → IsIn (Mark l n) is →
+  pub label-note : (a : ℕ → ℕ) (base : ℕ) (o : Option Note) (is : List Noted) (l : ℕ) (n : Note) → Chain p all [] o is None → IsIn (Mark l n) is →
       IsApart (labels (items_of is)) → (k : ℕ) × (stands_at l base (items_of is) ≡ Some (base + k)) × (slice_get (notes_of a is) k ≡ Some (note_at a n))
   label-note a base o is l n c_end i ap_is = absurd i
   label-note a base o is l n (c_does {is = js} ok h) (inl e) ap_is = absurd (does-mark e)

@@ -1,23 +1,20 @@
 -- The items of a block follow their notes.
-use Rattle.std.proofs.Common.{◌≡◌, true≢false, ℕ, zero, suc, ◌<◌, ◌≤◌, ◌+◌, ◌⊎◌, Bool, true, false, cond, not, List, [], ◌∷◌, ◌++◌, length, Option, Some, None, slice_get, refl, sym, ap, ◌∙◌, subst, inl, inr, ⊎_elim, append_assoc, append-nil, lit<, lit≤, arith}
-use Rattle.std.proofs.lemmas.Bool.{cases_eq, eq-eqb}
-use Rattle.tb_prim.specs.declared.place.Place.{Place}
+use Rattle.std.proofs.Common.{◌≡◌, ℕ, suc, ◌<◌, Bool, true, false, cond, not, List, [], ◌∷◌, ◌++◌, length, Option, Some, None, refl, sym, ap, ◌∙◌, subst, inl, inr, ⊎_elim, arith}
+use Rattle.std.proofs.lemmas.Bool.{cases_eq}
 use Rattle.tb_semantics.specs.Graph.{IsApart, IsIn}
 use Rattle.tb_semantics.proofs.ListLemmas.{in-left, in-right, in-cases}
-use Rattle.tb_core.specs.FreeVariables.{is_in, of_lambdas, without}
-use Rattle.tb_core.proofs.Members.{in-without, tested-in, in-tested, without-sub}
-use Rattle.tb_ir.specs.AnfTree.{Operand, Quote, Var, Block, Bind, CloseAll, Tail, Op, Atom, Global, SetGlobal, DefGlobal, PrimUse, NewCell, CellGet, CellSet, Close, Call, Direct, Apply, Branch, ProcTree, AnfTree}
-use Rattle.tb_ir.specs.AnfMachine.{free_block, free_op, free_of_atom, free_of_atoms}
-use Rattle.tb_mac.specs.declared.code.Instr.{Instr}
+use Rattle.tb_core.specs.FreeVariables.{is_in, without}
+use Rattle.tb_core.proofs.Members.{in-without, in-tested}
+use Rattle.tb_ir.specs.AnfTree.{Operand, Block, Bind, CloseAll, Tail, Op, Branch, ProcTree, AnfTree}
 use Rattle.tb_mac.specs.declared.code.Instr.TheVariants as I
-use Rattle.tb_codegen.specs.Notes.{Spot, Reg, Slot, Symbol, Constant, Variable, Itself, Capture, Entry, Stands, Waiting, ToCaller, ToTop, Then, Point, AtBlock, AtValue, AtUnspecified, AtFill, AtAll, Own, Away, Here, Ready, Note, Inside, AtProc, AtLifted, Noted, Mark, Does, symbol_of}
-use Rattle.tb_codegen.specs.Operations.{Body, result, variables, waiting_map, block_map, value_map, here, loads, loaded, operands, first_register, is_call, returning, leaving, evaluated, simple}
-use Rattle.tb_codegen.specs.Generate.{captured_in, settled, block_note, block_point, keep, given, last, passing, passed, labels_in, labels_of, code_block, code_bound, code_last, group}
-use Rattle.tb_codegen.proofs.Changes.{OpAt, at_bind, at_tail, Under, u_own, Given, g_new, g_var, g_deep, Same, same, IsFirst, is_first, IsNew, is_new, From, Into, NoSlots, HasFrame, frame_then, frame_top}
-use Rattle.tb_codegen.proofs.Ok.{Settles, s_more, s_group, s_bind, s_tail, Ok, ok_pop, ok_jump, ok_given, ok_return, free}
-use Rattle.tb_codegen.proofs.Chains.{Target, target, Chain, c_end, c_does, c_mark, c_dead, chain-on}
-use Rattle.tb_codegen.proofs.Maps.{Home, Named, here_named, further, Waits, block-slots, down, down-more, entry-spot, entry-symbol, in-loaded, in-variables, in-waiting, reg-slot, slot-same, variables-in, waiting-in, waiting-slots}
-use Rattle.tb_codegen.proofs.OperationChains.{IsEntered, OpOk, QuoteOk, at-home, body, evaluated-chain, leaving-chain, loaded-chain, waits-under}
+use Rattle.tb_codegen.specs.Notes.{Reg, Slot, Symbol, Variable, Stands, Waiting, ToCaller, ToTop, Then, AtValue, Away, Note, Inside, Noted, Mark, Does}
+use Rattle.tb_codegen.specs.Operations.{Body, variables, block_map, value_map, here, loaded}
+use Rattle.tb_codegen.specs.Generate.{captured_in, settled, block_note, keep, given}
+use Rattle.tb_codegen.proofs.Changes.{OpAt, Under, u_own, Given, g_var, g_deep, same, IsNew, is_new, From}
+use Rattle.tb_codegen.proofs.Ok.{Settles, s_more, s_group, s_bind, s_tail, ok_pop, ok_jump, ok_given, ok_return, free}
+use Rattle.tb_codegen.proofs.Chains.{target, Chain, c_end, c_does, chain-on}
+use Rattle.tb_codegen.proofs.Maps.{Named, down, down-more, entry-spot, in-loaded, in-variables, in-waiting, reg-slot, slot-same, variables-in, waiting-in}
+use Rattle.tb_codegen.proofs.OperationChains.{IsEntered, OpOk, QuoteOk, at-home, body, waits-under}
 
 -- what is kept without some variables is none of these
 pub kept-apart : (xs ys : List ℕ) (y : ℕ) → IsIn y (without xs ys) → is_in xs y ≡ false

@@ -1,5 +1,5 @@
 -- No frame or closure of a program's code has more words than the program is wide.
-use Rattle.std.proofs.Common.{◌≡◌, ℕ, ◌≤◌, refl, List, [], ◌∷◌, length, map, arith}
+use Rattle.std.proofs.Common.{◌≡◌, ℕ, ◌≤◌, refl, List, [], ◌∷◌, map, arith}
 use Rattle.tb_ir.specs.AnfTree.{AnfTree}
 use Rattle.tb_ir.specs.AnfRules.{KeepsRules}
 use Rattle.tb_ir.specs.AnfWidth.{width_of}

@@ -1,7 +1,6 @@
 -- Calls: the frame that waits, what can be reached, and the entry of a procedure.
-use Rattle.std.proofs.Common.{◌≡◌, refl, sym, ◌∙◌, subst, subst₂, ap, ℕ, zero, suc, ◌+◌, ◌-◌, ◌<◌, ◌≤◌, ◌⊎◌, ◌==◌, ◌%◌, Bool, cond, true, false, inl, inr, ⊎_elim, arith, List, [], ◌∷◌, ◌++◌, length, Option, Some, None, slice_get, slice_set, length-set, eq-eqb, ne_eqb}
+use Rattle.std.proofs.Common.{◌≡◌, refl, sym, ◌∙◌, subst, ap, ℕ, suc, ◌+◌, ◌≤◌, ◌⊎◌, true, inl, inr, ⊎_elim, arith, List, [], ◌∷◌, ◌++◌, length, Option, Some, None, slice_get, slice_set, length-set}
 use Rattle.std.specs.Prelude.{pos}
-use Rattle.std.proofs.lemmas.Bool.{cases_eq}
 use Rattle.tb_prim.specs.declared.event.Cause.{Cause}
 use Rattle.tb_prim.specs.declared.event.Event.{Event}
 use Rattle.tb_prim.specs.declared.event.Stop.{Stop}
@@ -9,35 +8,33 @@ use Rattle.tb_prim.specs.declared.constant.Const.{Const}
 use Rattle.tb_prim.specs.declared.constant.Const.TheVariants as K
 use Rattle.tb_prim.specs.declared.constant.Static.{Static}
 use Rattle.tb_prim.specs.declared.place.Place.{Place}
-use Rattle.tb_semantics.specs.Graph.{IsIn, Reaches, root, below}
-use Rattle.tb_semantics.specs.Runs.{run}
+use Rattle.tb_semantics.specs.Graph.{IsIn, root, below}
 use Rattle.tb_semantics.proofs.ListLemmas.{in-cases, in-left, in-right}
 use Rattle.tb_semantics.proofs.Reachable.{below_in}
-use Rattle.tb_core.specs.Store.{Value, At, value_of, Object, Pair, Vec, Str, Sym}
+use Rattle.tb_core.specs.Store.{Value, At, Object, Pair, Vec, Str, Sym}
 use Rattle.tb_core.specs.Space.{value_locations, values_locations}
 use Rattle.tb_ir.specs.TreeMachine.{env_values}
-use Rattle.tb_ir.specs.AnfTree.{Operand, Quote, Var, Block, Op, Call, Direct, AnfTree, ProcTree}
-use Rattle.tb_ir.specs.AnfMachine.{AnfConfig, AnfFrames, AnfState, AnfWork, Code, InBlock, InOp, atom_value, atom_values, free_of_atom, free_of_atoms, free_op}
-use Rattle.tb_ir.specs.Machine.{Callee, Closure, Lifted, Control, Entering, Env, Empty, Eval, Frame, Item, Cell, Obj, Clo, Running, Stopped, Val, bind_all, emit, enter, fail, gather, lookup, mark_top}
-use Rattle.tb_mac.specs.declared.code.Instr.{Instr}
+use Rattle.tb_ir.specs.AnfTree.{Operand, Quote, Var, Block, Call, Direct, AnfTree, ProcTree}
+use Rattle.tb_ir.specs.AnfMachine.{AnfConfig, AnfFrames, AnfWork, InBlock, InOp, atom_value, atom_values, free_of_atom, free_of_atoms, free_op}
+use Rattle.tb_ir.specs.Machine.{Closure, Lifted, Env, Empty, Eval, Frame, Item, Cell, Obj, Clo, bind_all, enter, fail, gather, mark_top}
 use Rattle.tb_mac.specs.declared.code.Instr.TheVariants as I
 use Rattle.tb_mac.specs.declared.word.Word.{Word}
 use Rattle.tb_mac.specs.declared.word.Word.TheVariants as W
 use Rattle.tb_mac.specs.Assembled.{Assembled}
 use Rattle.tb_mac.specs.Effects.{object_at, pair_at, procedure_at, Heap}
-use Rattle.tb_mac.specs.Frames.{Frame as MacFrame, framed_perform}
+use Rattle.tb_mac.specs.Frames.{Frame as MacFrame}
 use Rattle.tb_mac.specs.MacStep.{place_of}
 use Rattle.tb_mac.specs.Objects.{procedure_kind, procedure_tag}
-use Rattle.tb_codegen.specs.Notes.{Entry, Stands, Spot, Reg, Slot, Symbol, Constant, Variable, Own, Here, Away, Ready, Note, Inside, AtBlock, AtValue, AtProc, AtLifted, Waiting, ToCaller, ToTop, Then, symbol_of}
-use Rattle.tb_codegen.specs.Generate.{captured_in, settled}
-use Rattle.tb_codegen.proofs.Changes.{Args, no_args, an_arg, Backs, from_register, HasFrame, frame_then, frame_top, OpAt, StartsLifted, Under}
-use Rattle.tb_codegen.proofs.Envs.{get-set, get-set-other, get-within}
+use Rattle.tb_codegen.specs.Notes.{Entry, Stands, Spot, Reg, Slot, Constant, Own, Note, Inside, AtBlock, AtLifted, Waiting, ToCaller, symbol_of}
+use Rattle.tb_codegen.specs.Generate.{captured_in}
+use Rattle.tb_codegen.proofs.Changes.{Args, no_args, an_arg, Backs, from_register, frame_then, frame_top, OpAt, StartsLifted}
+use Rattle.tb_codegen.proofs.Envs.{get-set, get-set-other}
 use Rattle.tb_codegen.proofs.Holding.{pushed, under_name}
 use Rattle.tb_codegen.proofs.Moves.{done}
 use Rattle.tb_codegen.proofs.Ok.{Calls, from_away, from_ready, HasNote, IsWritten, Lifts, free}
-use Rattle.tb_codegen.proofs.Operands.{found_location, Opers, op_none, op_more, at_op, fails_op, op_starts, opers, opers_length, opers_values, value-gather}
-use Rattle.tb_codegen.proofs.Rel.{AboutTo, AtCall, Closed, FsRel, f_none, f_then, f_top, Goes, Has, HasAny, Holds, Ins, in_none, in_more, JRel, j_caller, j_then, j_top, Link, Lk, Means, m_name, Memory, ORel, o_cell, o_pair, o_vector, o_string, o_symbol, o_procedure, OwnRel, o_away, o_ready, PtRel, at_block, IsCut, Rel, r_calls, r_lifted, Saved, WRel, w_fix, w_char, w_false, w_true, w_nil, w_unspecified, w_undefined, w_end, w_at, Whole, World, at_top, config, meaning, step_of, tag_of, waits}
-use Rattle.tb_codegen.proofs.Sim.{Sim, Still, machine, source, target}
+use Rattle.tb_codegen.proofs.Operands.{found_location, Opers, op_none, op_more, fails_op, op_starts, opers, opers_length, opers_values, value-gather}
+use Rattle.tb_codegen.proofs.Rel.{AboutTo, AtCall, Closed, FsRel, f_none, f_then, f_top, Holds, Ins, in_none, in_more, JRel, j_caller, j_then, j_top, Lk, Memory, ORel, o_cell, o_pair, o_vector, o_string, o_symbol, o_procedure, OwnRel, o_away, o_ready, IsCut, r_calls, r_lifted, Saved, WRel, w_fix, w_char, w_false, w_true, w_nil, w_unspecified, w_undefined, w_end, w_at, Whole, World, at_top, config, meaning, tag_of, waits}
+use Rattle.tb_codegen.proofs.Sim.{Sim, Still, source}
 
 -- a value that is no location, and a word that is no pointer
 pub data Kind (w : World) : Word → Value → Type 0 where

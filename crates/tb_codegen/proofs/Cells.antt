@@ -1,5 +1,5 @@
 -- Cells are made, read and set.
-use Rattle.std.proofs.Common.{◌≡◌, refl, sym, ◌∙◌, subst, subst₂, ap, ℕ, zero, suc, ◌+◌, ◌-◌, ◌<◌, ◌≤◌, ◌⊎◌, ◌==◌, ◌%◌, Bool, cond, true, false, inl, inr, ⊎_elim, arith, List, [], ◌∷◌, ◌++◌, length, Option, Some, None, slice_get, slice_set, length-set}
+use Rattle.std.proofs.Common.{◌≡◌, refl, sym, ◌∙◌, subst, ap, ℕ, zero, suc, ◌+◌, ◌<◌, ◌≤◌, Bool, inl, inr, ⊎_elim, arith, List, [], ◌∷◌, ◌++◌, length, Option, Some, None, slice_get, slice_set}
 use Rattle.std.specs.Prelude.{drop}
 use Rattle.std.proofs.Common.{lt-ltb, le-ltb}
 use Rattle.std.proofs.lemmas.Bool.{cases_lt}
@@ -10,37 +10,35 @@ use Rattle.tb_prim.specs.declared.event.Taken.{Taken}
 use Rattle.tb_prim.specs.declared.place.Place.{Place}
 use Rattle.tb_semantics.specs.Graph.{IsIn}
 use Rattle.tb_semantics.proofs.ListLemmas.{get-last, get-left, in-left, in-right}
-use Rattle.tb_core.specs.Store.{Value, At, Unspecified, Undefined, Object, Pair, Vec, Str, Sym}
+use Rattle.tb_core.specs.Store.{Value, At, Unspecified, Undefined}
 use Rattle.tb_ir.specs.AnfTree.{Operand, Block, Op, NewCell, CellGet, CellSet, AnfTree}
-use Rattle.tb_ir.specs.AnfMachine.{AnfConfig, AnfFrames, AnfState, Code, InBlock, InOp, atom_value, atom_values, free_of_atom, free_op}
-use Rattle.tb_ir.specs.Machine.{Control, Env, Empty, Eval, Item, Cell, Obj, Clo, Running, Lost, Stopped, Val, gather, get_cell, go, get_held, set_cell}
+use Rattle.tb_ir.specs.AnfMachine.{AnfConfig, AnfFrames, InBlock, InOp, atom_value, atom_values, free_of_atom, free_op}
+use Rattle.tb_ir.specs.Machine.{Env, Eval, Item, Cell, Lost, Val, gather, get_cell, go, get_held, set_cell}
 use Rattle.tb_ir.specs.Space.{closures_in, made, words_in}
-use Rattle.tb_mac.specs.declared.code.Instr.{Instr}
 use Rattle.tb_mac.specs.declared.code.Instr.TheVariants as I
 use Rattle.tb_mac.specs.declared.word.Word.{Word}
-use Rattle.tb_mac.specs.declared.word.Placed.{Placed}
 use Rattle.tb_mac.specs.declared.word.Word.TheVariants as W
 use Rattle.tb_mac.specs.Assembled.{Assembled}
-use Rattle.tb_mac.specs.Effects.{object_at, Heap}
-use Rattle.tb_mac.specs.Frames.{Frame as MacFrame, framed_perform, makes}
+use Rattle.tb_mac.specs.Effects.{object_at}
+use Rattle.tb_mac.specs.Frames.{Frame as MacFrame, makes}
 use Rattle.tb_mac.specs.LiveWords.{closure_count, data_size, object_size as words_from}
 use Rattle.tb_mac.specs.MacStep.{place_of}
-use Rattle.tb_mac.specs.Objects.{cell_kind, cell_words, vector_tag}
-use Rattle.tb_codegen.specs.Notes.{Entry, Stands, Spot, Reg, Slot, Symbol, Own, Note, Inside, AtBlock, AtValue, AtUnspecified, Waiting, symbol_of}
+use Rattle.tb_mac.specs.Objects.{cell_kind, vector_tag}
+use Rattle.tb_codegen.specs.Notes.{Entry, Reg, Own, Note, Inside, AtBlock, AtValue, AtUnspecified, Waiting, symbol_of}
 use Rattle.tb_codegen.specs.Generate.{captured_in}
 use Rattle.tb_codegen.proofs.Calls.{Kind, k_at, k_data, kind_of}
 use Rattle.tb_codegen.proofs.Changes.{Args, no_args, an_arg, From, Into, IsFirst, OpAt, Under}
 use Rattle.tb_codegen.proofs.Envs.{get-set, get-set-other, get-within}
 use Rattle.tb_codegen.proofs.Holding.{w-more}
 use Rattle.tb_mac.specs.FramedRuns.{framed_after}
-use Rattle.tb_codegen.proofs.Memories.{agree_left, agree_set, IsPlain, p_agree, p_get, p_set, plain_word}
+use Rattle.tb_codegen.proofs.Memories.{agree_left, agree_set, IsPlain, p_agree, p_set, plain_word}
 use Rattle.tb_codegen.proofs.Moves.{done}
 use Rattle.tb_codegen.proofs.Ok.{HasNote, free}
-use Rattle.tb_codegen.proofs.Operands.{Opers, op_none, op_more, at_op, atom_there, fails_op, lands_op, lands_written, lost_op, opers, opers_values, operand_free, value-gather}
-use Rattle.tb_codegen.proofs.Rel.{Closed, Grows, FsRel, globals_words, HasAny, Holds, JRel, Link, Lk, Linked, Memory, Open, ORel, o_cell, o_pair, o_vector, o_string, o_symbol, o_procedure, OwnRel, IsBefore, IsCut, PRel, p_none, p_full, at_block, r_full, r_inside, Stores, Whole, World, WRel, w_at, config, fill_of, step_of, tag_of}
-use Rattle.tb_codegen.proofs.Sim.{Sim, Still, machine, source, target}
+use Rattle.tb_codegen.proofs.Operands.{at_op, atom_there, fails_op, lands_op, lands_written, lost_op, value-gather}
+use Rattle.tb_codegen.proofs.Rel.{Closed, FsRel, globals_words, Holds, JRel, Lk, Memory, ORel, o_cell, o_pair, o_vector, o_string, o_symbol, o_procedure, OwnRel, IsCut, PRel, p_none, p_full, at_block, r_full, r_inside, Stores, Whole, World, WRel, w_at, config, step_of, tag_of}
+use Rattle.tb_codegen.proofs.Sim.{Sim, Still, machine, source}
 use Rattle.tb_codegen.proofs.Simple.{Defined, is_mark, is_value, defined}
-use Rattle.tb_codegen.proofs.Stored.{is_within, stores_new, stores_write}
+use Rattle.tb_codegen.proofs.Stored.{stores_new, stores_write}
 
 -- what is made so far, with one more item, and with an item in place of one as large
 pub made_more : (st : List Item) (i : Item) → made (st ++ i ∷ []) ≡ made st + (closures_in i + words_in i)

@@ -1,9 +1,8 @@
 -- Rows of items with notes: each instruction is what its note says to the note behind it, and its targets are labels
 -- of these items.
-use Rattle.std.proofs.Common.{◌≡◌, ℕ, List, [], ◌∷◌, ◌++◌, Option, Some, None, refl, sym, ◌∙◌, ap, subst, append_assoc, append-nil, inl, inr}
+use Rattle.std.proofs.Common.{ℕ, List, [], ◌∷◌, ◌++◌, Option, Some, None, sym, subst, append_assoc}
 use Rattle.tb_prim.specs.declared.place.Place.{Place}
 use Rattle.tb_semantics.specs.Graph.{IsIn}
-use Rattle.tb_semantics.proofs.ListLemmas.{in-left, in-right}
 use Rattle.tb_ir.specs.AnfTree.{AnfTree}
 use Rattle.tb_mac.specs.declared.code.Instr.{Instr}
 use Rattle.tb_codegen.specs.Notes.{Note, Noted, Mark, Does}

@@ -1,11 +1,11 @@
 -- How what stands somewhere changes its names along the code.
-use Rattle.std.proofs.Common.{◌≡◌, ℕ, suc, ◌≤◌, ◌⊎◌, List, [], ◌∷◌, Option, Some, None, slice_get}
+use Rattle.std.proofs.Common.{◌≡◌, ℕ, suc, ◌⊎◌, List, [], ◌∷◌, Option, Some, None, slice_get}
 use Rattle.tb_prim.specs.declared.constant.Const.{Const}
 use Rattle.tb_semantics.specs.Graph.{IsIn}
 use Rattle.tb_core.specs.FreeVariables.{without}
 use Rattle.tb_ir.specs.AnfTree.{Operand, Block, Bind, Tail, Op}
 use Rattle.tb_ir.specs.AnfMachine.{free_block}
-use Rattle.tb_codegen.specs.Notes.{Spot, Reg, Slot, Symbol, Constant, Variable, Itself, Capture, Entry, Stands, Waiting, ToCaller, ToTop, Then, symbol_of}
+use Rattle.tb_codegen.specs.Notes.{Spot, Reg, Slot, Symbol, Constant, Variable, Itself, Capture, Entry, Stands, Waiting, ToTop, Then, symbol_of}
 
 -- an operation of a block: what waits for its value, and the variables that a block which waits for it names,
 -- if it is bound

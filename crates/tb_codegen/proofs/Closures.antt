@@ -1,39 +1,36 @@
 -- New procedures: made, filled with what they capture, and given.
-use Rattle.std.proofs.Common.{◌≡◌, refl, sym, ◌∙◌, subst, subst₂, ap, ℕ, zero, suc, ◌+◌, ◌-◌, ◌<◌, ◌≤◌, ◌⊎◌, ◌==◌, ◌%◌, Bool, cond, true, false, inl, inr, ⊎_elim, arith, List, [], ◌∷◌, ◌++◌, length, Option, Some, None, slice_get, slice_set, length-set, lt-ltb, le-ltb, eq-eqb, ne_eqb}
+use Rattle.std.proofs.Common.{◌≡◌, refl, sym, ◌∙◌, subst, ap, ℕ, zero, suc, ◌+◌, ◌-◌, ◌<◌, ◌≤◌, ◌%◌, Bool, inl, inr, ⊎_elim, arith, List, [], ◌∷◌, ◌++◌, length, Option, Some, slice_get, slice_set, length-set, lt-ltb, le-ltb, eq-eqb, ne_eqb}
 use Rattle.std.specs.Prelude.{drop, pos, replicate}
 use Rattle.std.proofs.lemmas.Bool.{cases_lt}
 use Rattle.tb_prim.specs.declared.event.Taken.{Taken}
 use Rattle.tb_semantics.specs.Graph.{IsIn}
 use Rattle.tb_semantics.specs.Runs.{run}
-use Rattle.tb_semantics.proofs.ListLemmas.{get-last, get-left, in-left, in-right}
+use Rattle.tb_semantics.proofs.ListLemmas.{get-last, get-left}
 use Rattle.tb_core.specs.Store.{Value, At}
-use Rattle.tb_ir.specs.AnfTree.{Operand, Block, Op, Close, AnfTree, ProcTree}
-use Rattle.tb_ir.specs.AnfMachine.{AnfConfig, AnfFrames, AnfState, Code, InBlock, InOp, captured_by, free_op}
-use Rattle.tb_ir.specs.Machine.{Control, Env, Empty, Eval, Item, Cell, Obj, Clo, Running, Val, bind_all, bind_found, gather, lookup}
-use Rattle.tb_ir.specs.Space.{closures_in, made, words_in}
-use Rattle.tb_mac.specs.declared.code.Instr.{Instr}
+use Rattle.tb_ir.specs.AnfTree.{Block, Close, AnfTree, ProcTree}
+use Rattle.tb_ir.specs.AnfMachine.{AnfFrames, Code, InBlock, captured_by}
+use Rattle.tb_ir.specs.Machine.{Control, Env, Empty, Eval, Item, Clo, Val, bind_all, gather, lookup}
+use Rattle.tb_ir.specs.Space.{closures_in, words_in}
 use Rattle.tb_mac.specs.declared.code.Instr.TheVariants as I
 use Rattle.tb_mac.specs.declared.word.Word.{Word}
 use Rattle.tb_mac.specs.declared.word.Word.TheVariants as W
 use Rattle.tb_mac.specs.Assembled.{Assembled}
-use Rattle.tb_mac.specs.Effects.{object_at, Heap}
-use Rattle.tb_mac.specs.Frames.{Frame as MacFrame, framed_perform, makes}
-use Rattle.tb_mac.specs.FramedRuns.{framed_after}
+use Rattle.tb_mac.specs.Frames.{Frame as MacFrame}
 use Rattle.tb_mac.specs.LiveWords.{closure_count, data_size, object_size as words_from}
 use Rattle.tb_mac.specs.MacStep.{captured_at}
 use Rattle.tb_mac.specs.Objects.{new_procedure, padded_size, procedure_kind, procedure_tag}
-use Rattle.tb_codegen.specs.Notes.{Entry, Stands, Spot, Reg, Slot, Symbol, Variable, Capture, Own, Note, Inside, Point, AtBlock, AtValue, AtFill, AtProc, Waiting}
+use Rattle.tb_codegen.specs.Notes.{Entry, Stands, Reg, Variable, Capture, Own, Note, Inside, Point, AtBlock, AtValue, AtFill, AtProc, Waiting}
 use Rattle.tb_codegen.specs.Generate.{captured_in}
 use Rattle.tb_codegen.proofs.Cells.{at_end, at_next, made_more, step_make}
 use Rattle.tb_codegen.proofs.Changes.{From, Into, IsFirst, OpAt, Opens, o_under, o_capture, Same, Under}
-use Rattle.tb_codegen.proofs.Envs.{gather-sub, get-in, get-set, get-set-other, get-within, same_caught}
+use Rattle.tb_codegen.proofs.Envs.{gather-sub, get-set, get-set-other, get-within, same_caught}
 use Rattle.tb_codegen.proofs.Holding.{Changes, first-put, fs-more, holds-from, holds-into, pushed, same-means, under}
-use Rattle.tb_codegen.proofs.Memories.{agree_left, agree_set, IsPlain, p_agree, plain_word}
+use Rattle.tb_codegen.proofs.Memories.{agree_left, agree_set, p_agree, plain_word}
 use Rattle.tb_codegen.proofs.Moves.{done}
 use Rattle.tb_codegen.proofs.Ok.{Entered, HasNote, Stand, free}
-use Rattle.tb_codegen.proofs.Operands.{at_op, op_starts}
-use Rattle.tb_codegen.proofs.Rel.{Closed, Fill, Grows, FsRel, globals_words, HasAny, Holds, JRel, Link, Lk, Linked, Means, m_name, m_capture, Memory, Open, Opened, ORel, o_cell, o_pair, o_vector, o_string, o_symbol, o_procedure, OwnRel, IsBefore, IsCut, Part, PRel, p_none, p_full, p_zero, PtRel, at_block, at_fill, at_value, r_full, r_inside, Rel, Stores, Whole, World, WRel, unmade, w_fix, w_at, config, fill_of, filled, open_of, step_of, tag_of}
-use Rattle.tb_codegen.proofs.Sim.{Mem, Sim, Still, machine, quiet, source, target}
+use Rattle.tb_codegen.proofs.Operands.{op_starts}
+use Rattle.tb_codegen.proofs.Rel.{Closed, Fill, FsRel, globals_words, Holds, JRel, Lk, Means, m_name, m_capture, Memory, Open, Opened, ORel, o_cell, o_pair, o_vector, o_string, o_symbol, o_procedure, OwnRel, IsBefore, IsCut, Part, PRel, p_none, p_full, p_zero, PtRel, at_block, at_fill, at_value, r_full, r_inside, Rel, Stores, Whole, World, WRel, unmade, w_fix, w_at, fill_of, filled, open_of, step_of, tag_of}
+use Rattle.tb_codegen.proofs.Sim.{Mem, Sim, Still, source, target}
 use Rattle.tb_codegen.proofs.Stored.{stores_new, stores_write}
 
 -- the values that are captured

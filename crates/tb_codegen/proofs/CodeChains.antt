@@ -1,19 +1,19 @@
 -- The items of a block follow their notes, operation after operation.
-use Rattle.std.proofs.Common.{◌≡◌, true≢false, ℕ, suc, ◌+◌, ◌⊎◌, Bool, true, false, cond, List, [], ◌∷◌, ◌++◌, Option, Some, None, refl, sym, ap, ◌∙◌, subst, inl, inr, ⊎_elim, append_assoc, lit≤}
+use Rattle.std.proofs.Common.{◌≡◌, true≢false, ℕ, suc, ◌+◌, Bool, true, false, cond, List, [], ◌∷◌, ◌++◌, Option, Some, None, refl, sym, ◌∙◌, subst, inl, inr, append_assoc, lit≤}
 use Rattle.tb_semantics.specs.Graph.{IsIn}
 use Rattle.tb_semantics.proofs.ListLemmas.{in-left, in-right}
 use Rattle.tb_core.specs.FreeVariables.{without}
-use Rattle.tb_ir.specs.AnfTree.{Operand, Quote, Var, Block, Bind, CloseAll, Tail, Op, Atom, Global, SetGlobal, DefGlobal, PrimUse, NewCell, CellGet, CellSet, Close, Call, Direct, Apply, Branch, AnfTree}
-use Rattle.tb_ir.specs.AnfMachine.{free_block, free_op, free_of_atom}
+use Rattle.tb_ir.specs.AnfTree.{Operand, Block, Bind, CloseAll, Tail, Op, Atom, Global, SetGlobal, DefGlobal, PrimUse, NewCell, CellGet, CellSet, Close, Call, Direct, Apply, Branch, AnfTree}
+use Rattle.tb_ir.specs.AnfMachine.{free_op, free_of_atom}
 use Rattle.tb_mac.specs.declared.code.Instr.TheVariants as I
-use Rattle.tb_codegen.specs.Notes.{Spot, Reg, Slot, Symbol, Variable, Entry, Stands, Waiting, ToCaller, ToTop, Then, Point, AtBlock, AtValue, Away, Note, Inside, Noted, Mark, Does, symbol_of}
-use Rattle.tb_codegen.specs.Operations.{Body, variables, waiting_map, block_map, value_map, here, loads, loaded, operands, first_register, is_call, returning, leaving, evaluated, simple}
+use Rattle.tb_codegen.specs.Notes.{Slot, Variable, Entry, Stands, Waiting, ToCaller, ToTop, Then, Point, AtBlock, AtValue, Noted, Mark, Does}
+use Rattle.tb_codegen.specs.Operations.{Body, block_map, value_map, here, loads, loaded, operands, first_register, is_call, returning, leaving, evaluated, simple}
 use Rattle.tb_codegen.specs.Generate.{captured_in, settled, block_note, keep, given, last, passing, passed, labels_in, labels_of, code_block, code_bound, code_last, group}
-use Rattle.tb_codegen.proofs.Changes.{OpAt, at_bind, at_tail, Under, Same, same, From, HasFrame, frame_then, frame_top}
-use Rattle.tb_codegen.proofs.Ok.{Ok, ok_branch, ok_jump, free}
-use Rattle.tb_codegen.proofs.Chains.{Target, target, Chain, c_end, c_does, c_mark, c_dead, chain-on}
+use Rattle.tb_codegen.proofs.Changes.{OpAt, at_bind, at_tail, Under, same, From, frame_then, frame_top}
+use Rattle.tb_codegen.proofs.Ok.{ok_branch, ok_jump, free}
+use Rattle.tb_codegen.proofs.Chains.{target, Chain, c_end, c_does, c_mark, c_dead, chain-on}
 use Rattle.tb_codegen.proofs.Maps.{Named, here_named, further}
-use Rattle.tb_codegen.proofs.OperationChains.{OpOk, QuoteOk, body, evaluated-chain, leaving-chain, loaded-chain, names-stand}
+use Rattle.tb_codegen.proofs.OperationChains.{OpOk, body, evaluated-chain, leaving-chain, loaded-chain, names-stand}
 use Rattle.tb_codegen.proofs.BlockChains.{ArmsOk, BlockOk, HomeOk, Stored, WaitOk, Within, arm-from, empties, end_of, given-chain, keep-chain, settles, wait-more}
 use Rattle.tb_codegen.proofs.GroupChains.{group-chain}
 

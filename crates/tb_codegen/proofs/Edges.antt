@@ -1,22 +1,20 @@
 -- What an object leads to is what its item leads to.
-use Rattle.std.proofs.Common.{◌≡◌, refl, sym, ◌∙◌, subst, ap, ℕ, zero, suc, ◌+◌, ◌<◌, ◌≤◌, ◌⊎◌, arith, inl, inr, ⊎_elim, List, [], ◌∷◌, ◌++◌, length, Option, Some, None, slice_get}
-use Rattle.std.specs.Prelude.{pos}
+use Rattle.std.proofs.Common.{◌≡◌, refl, sym, ◌∙◌, subst, ap, ℕ, suc, ◌+◌, ◌≤◌, arith, inl, inr, ⊎_elim, List, [], ◌∷◌, ◌++◌, length, Some, slice_get}
 use Rattle.tb_semantics.specs.Graph.{IsIn}
 use Rattle.tb_semantics.proofs.ListLemmas.{in-cases, in-left, in-right}
-use Rattle.tb_core.specs.Store.{Value, At, Object, Pair, Vec, Str, Sym}
+use Rattle.tb_core.specs.Store.{Value}
 use Rattle.tb_core.specs.Space.{value_locations, values_locations}
 use Rattle.tb_ir.specs.AnfTree.{AnfTree}
-use Rattle.tb_ir.specs.Machine.{Env, Empty, Item, Cell, Obj, Clo, bind_all}
-use Rattle.tb_ir.specs.Space.{closures_in, item_locations, locations_of, words_in}
+use Rattle.tb_ir.specs.Machine.{Empty, Item, bind_all}
+use Rattle.tb_ir.specs.Space.{closures_in, item_locations, words_in}
 use Rattle.tb_ir.specs.TreeMachine.{env_values}
 use Rattle.tb_mac.specs.declared.word.Word.{Word}
-use Rattle.tb_mac.specs.declared.word.Word.TheVariants as W
 use Rattle.tb_mac.specs.LiveWords.{closure_count, data_size, pointing_words, targets, targets_from}
 use Rattle.tb_mac.specs.Words.{on_some}
 use Rattle.tb_codegen.specs.Notes.{Note}
 use Rattle.tb_codegen.specs.Generate.{captured_in}
 use Rattle.tb_codegen.proofs.Memories.{plain_word}
-use Rattle.tb_codegen.proofs.Rel.{Fill, Lk, Open, ORel, o_cell, o_pair, o_vector, o_string, o_symbol, o_procedure, PRel, p_none, p_full, p_zero, Stores, World, WRel, w_fix, w_char, w_false, w_true, w_nil, w_unspecified, w_undefined, w_end, w_at, fill_of, filled}
+use Rattle.tb_codegen.proofs.Rel.{Fill, Lk, ORel, o_cell, o_pair, o_vector, o_string, o_symbol, o_procedure, PRel, p_none, p_full, p_zero, World, WRel, w_fix, w_char, w_false, w_true, w_nil, w_unspecified, w_undefined, w_end, w_at}
 
 -- an address has a location among these
 pub record Match (w : World) (ls : List ℕ) (a : ℕ) : Type 0 where

@@ -1,27 +1,21 @@
 -- The entry of a procedure: its operands are counted, and are its parameters.
-use Rattle.std.proofs.Common.{◌≡◌, refl, sym, ◌∙◌, subst, subst₂, ap, ℕ, zero, suc, ◌+◌, ◌-◌, ◌<◌, ◌≤◌, ◌⊎◌, ◌==◌, ◌%◌, Bool, cond, true, false, inl, inr, ⊎_elim, arith, List, [], ◌∷◌, ◌++◌, length, Option, Some, None, slice_get, slice_set, length-set, append-nil, eq-eqb, ne_eqb, lt-ltb}
-use Rattle.std.specs.Prelude.{pos}
-use Rattle.std.proofs.lemmas.Bool.{cases_Bool, cases_eq}
-use Rattle.tb_prim.specs.declared.event.Cause.{Cause}
+use Rattle.std.proofs.Common.{◌≡◌, refl, sym, ◌∙◌, subst, subst₂, ap, ℕ, zero, suc, ◌+◌, ◌-◌, ◌<◌, ◌==◌, true, false, inl, inr, ⊎_elim, arith, List, [], ◌∷◌, ◌++◌, length, Some, slice_get, slice_set, length-set, append-nil, eq-eqb, ne_eqb, lt-ltb}
+use Rattle.std.proofs.lemmas.Bool.{cases_eq}
 use Rattle.tb_prim.specs.declared.event.Event.{Event}
-use Rattle.tb_prim.specs.declared.event.Stop.{Stop}
-use Rattle.tb_prim.specs.declared.event.Taken.{Taken}
-use Rattle.tb_prim.specs.declared.place.Place.{Place}
 use Rattle.tb_semantics.specs.Graph.{IsApart, IsIn}
 use Rattle.tb_semantics.specs.Runs.{run}
 use Rattle.tb_core.specs.Space.{values_locations}
 use Rattle.tb_core.specs.Store.{Value, At}
 use Rattle.tb_ir.specs.AnfTree.{Block, AnfTree, ProcTree}
-use Rattle.tb_ir.specs.AnfMachine.{AnfConfig, AnfFrames, AnfState, AnfWork, Code, InBlock, InOp, captured_by, proc_of}
-use Rattle.tb_ir.specs.Machine.{Callee, Closure, Lifted, Control, Entering, Env, Empty, Eval, Frame, Item, Clo, Running, Stopped, Val, bind_all, gather, lookup, mark_top}
-use Rattle.tb_mac.specs.declared.code.Instr.{Instr}
+use Rattle.tb_ir.specs.AnfMachine.{AnfFrames, AnfWork, Code, InBlock, captured_by}
+use Rattle.tb_ir.specs.Machine.{Closure, Lifted, Control, Entering, Env, Empty, Eval, Frame, Item, Clo, bind_all, gather, lookup, mark_top}
 use Rattle.tb_mac.specs.declared.code.Instr.TheVariants as I
 use Rattle.tb_mac.specs.declared.word.Word.{Word}
 use Rattle.tb_mac.specs.declared.word.Word.TheVariants as W
 use Rattle.tb_mac.specs.Assembled.{Assembled}
-use Rattle.tb_mac.specs.Frames.{Frame as MacFrame, framed_perform}
+use Rattle.tb_mac.specs.Frames.{Frame as MacFrame}
 use Rattle.tb_mac.specs.MacStep.{captured_at, place_of}
-use Rattle.tb_codegen.specs.Notes.{Entry, Stands, Spot, Reg, Slot, Symbol, Variable, Itself, Own, Away, Note, Inside, AtBlock, AtProc, AtArgs, AtLifted, Point, Waiting, ToCaller}
+use Rattle.tb_codegen.specs.Notes.{Entry, Stands, Reg, Variable, Itself, Own, Away, Note, Inside, AtBlock, AtArgs, Point, Waiting, ToCaller}
 use Rattle.tb_codegen.specs.Generate.{captured_in, settled}
 use Rattle.tb_codegen.proofs.Changes.{Caught, Into, IsThat, is_that, Same, Param, here_param, there_param, Starts, StartsLifted}
 use Rattle.tb_codegen.proofs.Envs.{get-in, get-within, lookup-gather, lookup-other, lookup-same, same_caught}
@@ -30,8 +24,8 @@ use Rattle.tb_codegen.proofs.Landing.{lands_block}
 use Rattle.tb_codegen.proofs.Memories.{p_get}
 use Rattle.tb_codegen.proofs.Moves.{done}
 use Rattle.tb_codegen.proofs.Ok.{Entered, HasNote, Lifts, Settles, free}
-use Rattle.tb_codegen.proofs.Rel.{AboutTo, AtCall, Caps, Closed, env_at, fill_of, FsRel, HasAny, Holds, Ins, in_none, in_more, JRel, j_caller, Means, m_itself, m_name, Memory, open_of, ORel, o_cell, o_pair, o_vector, o_string, o_symbol, o_procedure, OwnRel, o_away, PtRel, tag_of, Whole, Rel, r_args, r_calls, r_lifted, r_stopped, WRel, w_at, World, config, step_of}
-use Rattle.tb_codegen.proofs.Sim.{Mem, Sim, Still, machine, quiet, source, target}
+use Rattle.tb_codegen.proofs.Rel.{AboutTo, AtCall, Caps, Closed, env_at, fill_of, FsRel, HasAny, Holds, Ins, in_none, in_more, j_caller, Means, m_itself, m_name, Memory, open_of, ORel, o_cell, o_pair, o_vector, o_string, o_symbol, o_procedure, OwnRel, o_away, PtRel, tag_of, Whole, r_args, r_stopped, WRel, w_at, World, config, step_of}
+use Rattle.tb_codegen.proofs.Sim.{Mem, Sim, Still, quiet, source}
 
 past_binds : (ps : List ℕ) (vs : List Value) (r : Env) (x : ℕ) → (IsIn x ps → ⊥) → lookup (bind_all ps vs r) x ≡ lookup r x
 past_binds [] vs r x ne = refl

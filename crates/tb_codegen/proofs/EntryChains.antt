@@ -1,24 +1,20 @@
 -- The items at the entry of a lambda follow their notes: operands are counted, the frame is made, and captured
 -- variables and operands go to their slots.
-use Rattle.std.proofs.Common.{◌≡◌, true≢false, ℕ, zero, suc, ◌<◌, ◌≤◌, ◌+◌, ◌-◌, ◌⊎◌, Bool, true, false, cond, List, [], ◌∷◌, ◌++◌, length, take, Option, Some, None, slice_get, refl, sym, ap, ◌∙◌, subst, inl, inr, ⊎_elim, append_assoc, append-nil, lit<, lit≤, arith}
-use Rattle.std.proofs.lemmas.Bool.{cases_eq}
-use Rattle.std.proofs.lemmas.List.{length-take}
-use Rattle.tb_prim.specs.declared.place.Place.{Place}
+use Rattle.std.proofs.Common.{◌≡◌, true≢false, ℕ, suc, ◌<◌, ◌≤◌, ◌+◌, ◌⊎◌, Bool, true, false, cond, List, [], ◌∷◌, ◌++◌, length, Some, None, slice_get, refl, sym, ap, ◌∙◌, subst, inl, inr, ⊎_elim, append_assoc, append-nil, lit<, lit≤, arith}
 use Rattle.tb_semantics.specs.Graph.{IsApart, IsIn}
 use Rattle.tb_semantics.proofs.ListLemmas.{in-left, in-right, in-cases, length-last}
 use Rattle.tb_core.specs.FreeVariables.{is_in}
 use Rattle.tb_core.proofs.Members.{in-tested, tested-in}
-use Rattle.tb_ir.specs.AnfTree.{Block, ProcTree, AnfTree}
-use Rattle.tb_ir.specs.AnfMachine.{free_block, own_formals}
+use Rattle.tb_ir.specs.AnfTree.{ProcTree, AnfTree}
 use Rattle.tb_mac.specs.declared.code.Instr.{Instr}
 use Rattle.tb_mac.specs.declared.code.Instr.TheVariants as I
-use Rattle.tb_codegen.specs.Notes.{Spot, Reg, Slot, Symbol, Variable, Itself, Entry, Stands, Waiting, ToCaller, Point, AtBlock, Away, Here, Note, Inside, AtProc, AtArgs, AtLifted, Noted, Mark, Does}
+use Rattle.tb_codegen.specs.Notes.{Spot, Reg, Slot, Symbol, Variable, Itself, Entry, Stands, ToCaller, Point, AtBlock, Away, Note, Inside, Noted, Does}
 use Rattle.tb_codegen.specs.Operations.{Body, variables, block_map, here}
-use Rattle.tb_codegen.specs.Generate.{captured_in, settled, block_note, block_point, operands_map, itself_map, stores_captured, stores_operands, frame_made, counting, entry}
-use Rattle.tb_codegen.proofs.Changes.{Same, same, IsThat, is_that, StandsAt, stands_at, From, Into, Param, here_param, there_param, Starts, StartsLifted, Caught}
-use Rattle.tb_codegen.proofs.Ok.{Entered, Lifts, Ok, ok_store, ok_save, ok_capt, ok_proc, ok_args, ok_args_ge, ok_lifted, free}
-use Rattle.tb_codegen.proofs.Chains.{Target, Chain, c_end, c_does, chain-on}
-use Rattle.tb_codegen.proofs.Maps.{Home, entry-spot, entry-symbol, in-variables, put-into, reg-same, reg-slot, slot-same, variables-in}
+use Rattle.tb_codegen.specs.Generate.{settled, block_note, block_point, operands_map, itself_map, stores_captured, stores_operands, frame_made}
+use Rattle.tb_codegen.proofs.Changes.{Same, same, IsThat, is_that, StandsAt, stands_at, From, Into, Param, here_param, there_param}
+use Rattle.tb_codegen.proofs.Ok.{Entered, Ok, ok_store, ok_save, ok_capt, free}
+use Rattle.tb_codegen.proofs.Chains.{Target, Chain, c_end, c_does}
+use Rattle.tb_codegen.proofs.Maps.{entry-spot, entry-symbol, in-variables, put-into, reg-same, reg-slot, slot-same, variables-in}
 use Rattle.tb_codegen.proofs.OperationChains.{at-home, body}
 
 -- names that stay the same, one after another

@@ -1,12 +1,9 @@
 -- Environments that are cut, and elements of lists that are set.
-use Rattle.std.proofs.Common.{◌≡◌, refl, sym, ◌∙◌, subst, ap, ℕ, zero, suc, ◌<◌, ◌⊎◌, inl, inr, ⊎_elim, arith, List, [], ◌∷◌, ◌++◌, length, Option, Some, None, slice_get, slice_set, eq-eqb, ne_eqb}
+use Rattle.std.proofs.Common.{◌≡◌, refl, sym, ◌∙◌, subst, ap, ℕ, zero, suc, ◌<◌, ◌⊎◌, inl, inr, ⊎_elim, arith, List, [], ◌∷◌, length, Option, Some, None, slice_get, slice_set, eq-eqb, ne_eqb}
 use Rattle.std.proofs.lemmas.Bool.{cases_eq}
 use Rattle.tb_semantics.specs.Graph.{IsIn}
 use Rattle.tb_core.specs.Store.{Value}
 use Rattle.tb_ir.specs.Machine.{Env, Empty, Bind, bind_all, lookup, bind_found, gather}
-use Rattle.tb_ir.specs.AnfTree.{Operand, Quote, Var}
-use Rattle.tb_ir.specs.AnfMachine.{atom_value, atom_values, free_of_atom, free_of_atoms}
-use Rattle.tb_semantics.proofs.ListLemmas.{in-left, in-right}
 
 pub lookup-same : (x : ℕ) (v : Value) (r : Env) → lookup (Bind x v r) x ≡ Some v
 lookup-same x v r = rw (eq-eqb x x refl) refl

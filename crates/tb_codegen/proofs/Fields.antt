@@ -1,31 +1,25 @@
 -- All items of a program have fields in their ranges: the blocks of its procs keep what the ranges need.
-use Rattle.std.proofs.Common.{◌≡◌, true≢false, ℕ, zero, suc, ◌<◌, ◌≤◌, ◌+◌, ◌-◌, max, ◌⊎◌, Bool, true, false, cond, List, [], ◌∷◌, ◌++◌, length, length-append, map, take, Option, Some, None, slice_get, refl, sym, ap, ◌∙◌, subst, inl, inr, ⊎_elim, append_assoc, lit<, lit≤, arith}
+use Rattle.std.proofs.Common.{◌≡◌, true≢false, ℕ, ◌<◌, ◌≤◌, ◌+◌, Bool, true, false, List, [], ◌∷◌, ◌++◌, length, length-append, map, Option, Some, None, refl, sym, ap, subst, inl, inr, ⊎_elim, arith}
 use Rattle.std.proofs.lemmas.Bool.{cases_eq}
-use Rattle.std.proofs.lemmas.List.{length-take}
 use Rattle.tb_prim.specs.Primitives.{arity_of}
 use Rattle.tb_core.proofs.Members.{in-tested, in-without}
-use Rattle.tb_semantics.specs.Graph.{IsApart, IsIn}
-use Rattle.tb_semantics.proofs.ListLemmas.{in-left, in-right, in-cases}
+use Rattle.tb_semantics.specs.Graph.{IsIn}
+use Rattle.tb_semantics.proofs.ListLemmas.{in-left, in-right}
 use Rattle.tb_core.specs.FreeVariables.{is_in, of_lambdas, without}
 use Rattle.tb_core.specs.Width.{largest}
 use Rattle.tb_ir.specs.AnfTree.{Operand, Quote, Var, Block, Bind, CloseAll, Tail, Op, Atom, Global, SetGlobal, DefGlobal, PrimUse, NewCell, CellGet, CellSet, Close, Call, Direct, Apply, Branch, ProcTree, AnfTree}
-use Rattle.tb_ir.specs.AnfMachine.{captured_by, free_block, free_op, free_of_atom, free_of_atoms, own_formals, proc_of}
-use Rattle.tb_ir.specs.AnfRules.{BlockKeeps, IsShaped, KeepsRules, binders, blocks, blocks_in, forms_of, is_form, lambdas_of, of_each, operation, operations, plain_binders}
+use Rattle.tb_ir.specs.AnfMachine.{captured_by, free_op, free_of_atom, free_of_atoms, proc_of}
+use Rattle.tb_ir.specs.AnfRules.{blocks, blocks_in, of_each, operation, plain_binders}
 use Rattle.tb_ir.specs.AnfWidth.{all_widths, proc_width, width_of}
 use Rattle.tb_ir.specs.AnfWidth as Widths
-use Rattle.tb_mac.specs.declared.code.Instr.TheVariants as I
-use Rattle.tb_codegen.specs.Fits.{Fits}
-use Rattle.tb_codegen.specs.Homes.{frame_size, own_variables, slot_of}
-use Rattle.tb_codegen.specs.Notes.{Entry, Waiting, ToCaller, ToTop, Then, Point, AtBlock, AtValue, Note, Inside, AtProc, AtArgs, AtLifted, Away, Noted, Mark, Does}
-use Rattle.tb_codegen.specs.Generate.{block_point, body_of, captured_in, code_block, code_form, code_forms, code_lambda, code_lambdas, counting, entry, frame_made, itself_map, labels_in, labels_within, noted_items, operands_map, stores_captured, stores_operands}
-use Rattle.tb_codegen.specs.Operations.{variables}
+use Rattle.tb_codegen.specs.Notes.{Noted}
+use Rattle.tb_codegen.specs.Generate.{captured_in}
 use Rattle.tb_codegen.proofs.Ok.{free}
 use Rattle.tb_codegen.proofs.OperationChains.{OpOk, QuoteOk, QuotesOk}
 use Rattle.tb_codegen.proofs.BlockChains.{ArmsOk, BlockOk, HomesOk, kept-other}
 use Rattle.tb_codegen.proofs.CodeChains.{is_branch}
-use Rattle.tb_codegen.proofs.Namings.{each-append, every-at, in-each, proc-found}
-use Rattle.tb_codegen.proofs.Programs.{body-ok, block-keeps, entering, keeps, op-block}
-use Rattle.tb_codegen.proofs.Ranges.{AllGood, ArmsGood, AtomGood, AtomsGood, BlockGood, Good, LambdaGood, LambdasGood, OpGood, block-good, entries-length, few_slots, good-append, store-good}
+use Rattle.tb_codegen.proofs.Namings.{each-append, proc-found}
+use Rattle.tb_codegen.proofs.Ranges.{ArmsGood, AtomGood, AtomsGood, BlockGood, LambdasGood, OpGood}
 
 -- a number among others is at most the largest
 pub below-largest : (qs : List ProcTree) (q : ProcTree) → IsIn q qs → proc_width q ≤ largest (map proc_width qs)

@@ -1,10 +1,10 @@
 -- The constants that notes name are written by instructions, or are static objects that are there; and only register 0
 -- holds the procedure that was entered.
-use Rattle.std.proofs.Common.{◌≡◌, ℕ, zero, suc, ◌+◌, ◌⊎◌, Bool, true, false, cond, List, [], ◌∷◌, ◌++◌, length, Option, Some, None, ◌≤◌, arith, slice_get, refl, sym, ap, ◌∙◌, subst, inl, inr, ⊎_elim}
+use Rattle.std.proofs.Common.{◌≡◌, ℕ, zero, suc, ◌+◌, Bool, true, false, cond, List, [], ◌∷◌, ◌++◌, length, Option, Some, None, ◌≤◌, arith, slice_get, refl, sym, ap, ◌∙◌, subst, inl, inr, ⊎_elim}
 use Rattle.tb_prim.specs.declared.place.Place.{Place}
 use Rattle.tb_prim.specs.declared.constant.Const.{Const}
 use Rattle.tb_semantics.specs.Graph.{IsIn}
-use Rattle.tb_semantics.proofs.ListLemmas.{in-left, in-right, in-cases}
+use Rattle.tb_semantics.proofs.ListLemmas.{in-cases}
 use Rattle.tb_ir.specs.AnfTree.{Operand, Block, Bind, CloseAll, Tail, Op, Branch, ProcTree, AnfTree}
 use Rattle.tb_ir.specs.AnfMachine.{free_block}
 use Rattle.tb_ir.specs.AnfRules.{KeepsRules, forms_of, lambdas_of}
@@ -12,10 +12,10 @@ use Rattle.tb_mac.specs.declared.code.Instr.{Instr}
 use Rattle.tb_mac.specs.declared.code.Instr.TheVariants as I
 use Rattle.tb_codegen.specs.Fits.{Fits}
 use Rattle.tb_codegen.specs.Homes.{frame_size, slot_of}
-use Rattle.tb_codegen.specs.Notes.{Spot, Reg, Slot, Symbol, Constant, Variable, Itself, Capture, Entry, Stands, Waiting, ToCaller, ToTop, Then, Point, AtBlock, AtValue, AtAll, Own, Away, Here, Ready, Note, Inside, AtProc, AtArgs, AtLifted, Noted, Mark, Does}
+use Rattle.tb_codegen.specs.Notes.{Spot, Reg, Slot, Symbol, Constant, Variable, Itself, Capture, Entry, Stands, Waiting, ToCaller, ToTop, Then, Point, AtBlock, AtValue, Own, Away, Ready, Note, Inside, AtProc, AtArgs, AtLifted, Noted, Mark, Does}
 use Rattle.tb_codegen.specs.Operations.{Body, act, place, block_map, evaluated, first_register, here, is_call, leaving, loaded, loads, operands, returning, simple, value_map, variables, waiting_map}
 use Rattle.tb_codegen.specs.Generate.{block_note, body_of, captured_in, code_block, code_bound, code_form, code_forms, code_lambda, code_lambdas, code_last, entry, frame_made, given, group, keep, labels_in, labels_of, labels_within, last, noted_items, operands_map, passed, passing, settled}
-use Rattle.tb_codegen.proofs.Changes.{Same, same, Under, u_const, u_own, u_waits, u_deep, Given, g_const, g_new, g_var, g_deep, Kept, k_const, k_var, k_deep, Opens, o_under, o_capture, IsFirst, is_first, IsNew, is_new, IsThat, is_that, StandsAt, stands_at, From, Into, Starts, StartsLifted}
+use Rattle.tb_codegen.proofs.Changes.{Same, same, Under, u_const, u_own, u_waits, u_deep, Given, g_const, g_new, g_var, g_deep, Kept, k_const, k_var, k_deep, Opens, o_under, o_capture, IsFirst, is_first, IsNew, is_new, IsThat, is_that, StandsAt, stands_at, From, Into, Starts}
 use Rattle.tb_codegen.proofs.Ok.{IsWritten, Onward, not_yet, all_done, Ok, ok_load, ok_store, ok_const, ok_save, ok_setrtn, ok_pop, ok_jump, ok_form, ok_end, ok_act, ok_read, ok_write, ok_unspecified, ok_given, ok_branch, ok_return, ok_invoke, ok_apply, ok_direct, ok_proc, ok_lifted, ok_args, ok_args_ge, ok_capt, ok_close, ok_open, ok_fill, ok_filled, ok_first, ok_next, ok_stored, ok_word, HasNote}
 use Rattle.tb_codegen.proofs.Chains.{Chain, c_end, c_does, c_mark, c_dead, Target}
 use Rattle.tb_codegen.proofs.Maps.{entry-symbol, reg-same, variables-in, waiting-in}

@@ -1,14 +1,11 @@
 -- The code of a program that keeps its rules, and fits, follows the notes of its items.
-use Rattle.std.proofs.Common.{◌≡◌, ℕ, suc, ◌+◌, List, [], ◌∷◌, ◌++◌, length, map, Option, Some, None, slice_get, refl, sym, ap, ◌∙◌, subst, inl, inr, arith}
-use Rattle.tb_prim.specs.declared.place.Place.{Place}
+use Rattle.std.proofs.Common.{◌≡◌, ℕ, suc, List, [], ◌∷◌, ◌++◌, length, map, Some, refl, sym, ap, ◌∙◌, subst, inl, inr}
 use Rattle.tb_semantics.specs.Graph.{IsIn}
 use Rattle.tb_ir.specs.AnfMachine.{proc_of}
 use Rattle.tb_ir.specs.AnfTree.{AnfTree, ProcTree}
 use Rattle.tb_ir.specs.AnfRules.{KeepsRules, lambdas_of}
-use Rattle.tb_mac.specs.declared.code.LambdaEntry.{LambdaEntry}
 use Rattle.tb_mac.specs.Assemble.{number_of, with_entry}
 use Rattle.tb_mac.specs.LiveWords.{is_lifted}
-use Rattle.tb_mac.specs.Words.{on_some}
 use Rattle.tb_codegen.specs.Fits.{Fits}
 use Rattle.tb_codegen.specs.Generate.{noted_items}
 use Rattle.tb_codegen.specs.Notes.{ToTop, AtValue, Away, Inside}

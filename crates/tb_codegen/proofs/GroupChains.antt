@@ -1,21 +1,20 @@
 -- The items of procedures that are made together follow their notes: each is made and stored, and then their captured
 -- words are written.
-use Rattle.std.proofs.Common.{◌≡◌, true≢false, ℕ, zero, suc, ◌<◌, ◌≤◌, ◌+◌, ◌⊎◌, Bool, true, false, cond, ◌||◌, List, [], ◌∷◌, ◌++◌, length, length-append, Option, Some, None, slice_get, slice_set, refl, sym, ap, ◌∙◌, subst, inl, inr, ⊎_elim, append_assoc, append-nil, lit<, lit≤, arith}
+use Rattle.std.proofs.Common.{◌≡◌, true≢false, ℕ, zero, suc, ◌⊎◌, Bool, true, false, cond, ◌||◌, List, [], ◌∷◌, ◌++◌, length, length-append, Some, None, slice_get, slice_set, refl, sym, ap, ◌∙◌, subst, inl, inr, ⊎_elim, append_assoc, append-nil, lit<, arith}
 use Rattle.tb_semantics.specs.Graph.{IsApart, IsIn}
 use Rattle.tb_semantics.proofs.ListLemmas.{in-left, in-right, in-cases, length-last}
-use Rattle.tb_core.specs.FreeVariables.{is_in, of_lambdas, without}
-use Rattle.tb_core.proofs.Members.{in-without, in-tested, tested-in, without-sub}
-use Rattle.tb_ir.specs.AnfTree.{Block, CloseAll, ProcTree, AnfTree}
-use Rattle.tb_ir.specs.AnfMachine.{captured_by, free_block}
-use Rattle.tb_mac.specs.declared.code.Instr.TheVariants as I
-use Rattle.tb_codegen.specs.Notes.{Spot, Reg, Slot, Symbol, Variable, Entry, Stands, Waiting, Point, AtBlock, AtAll, Here, Note, Inside, Noted, Does}
-use Rattle.tb_codegen.specs.Operations.{Body, variables, waiting_map, block_map, here}
+use Rattle.tb_core.specs.FreeVariables.{is_in, of_lambdas}
+use Rattle.tb_core.proofs.Members.{in-without, in-tested, tested-in}
+use Rattle.tb_ir.specs.AnfTree.{Block, CloseAll, AnfTree}
+use Rattle.tb_ir.specs.AnfMachine.{captured_by}
+use Rattle.tb_codegen.specs.Notes.{Spot, Reg, Slot, Symbol, Variable, Entry, Stands, Waiting, Point, AtAll, Here, Note, Noted}
+use Rattle.tb_codegen.specs.Operations.{Body, variables, block_map, here}
 use Rattle.tb_codegen.specs.Generate.{captured_in, settled, block_note, zeros, counts, group_map, makes, words, all_words, writes, group}
 use Rattle.tb_codegen.proofs.Changes.{Under, u_own, u_deep, Same, same, IsThat, is_that, StandsAt, stands_at, From, Into, Kept, k_var, k_deep}
-use Rattle.tb_codegen.proofs.Ok.{catches, Entered, StandOr, Fulls, Onward, Settles, not_yet, all_done, ok_load, ok_first, ok_next, ok_stored, ok_word, free}
-use Rattle.tb_codegen.proofs.Chains.{Target, target, Chain, c_end, c_does, chain-on}
-use Rattle.tb_codegen.proofs.Maps.{Home, Named, NoRegisters, Waits, block-slots, down, down-more, entry-spot, entry-symbol, in-variables, put-into, reg-same, reg-slot, slot-same, variables-in, waiting-in, waiting-slots}
-use Rattle.tb_codegen.proofs.OperationChains.{IsEntered, at-home, body}
+use Rattle.tb_codegen.proofs.Ok.{catches, Fulls, Onward, Settles, not_yet, all_done, ok_load, ok_first, ok_next, ok_stored, ok_word, free}
+use Rattle.tb_codegen.proofs.Chains.{target, Chain, c_end, c_does, chain-on}
+use Rattle.tb_codegen.proofs.Maps.{Home, Named, block-slots, down, down-more, entry-spot, entry-symbol, in-variables, put-into, reg-same, reg-slot, slot-same, variables-in, waiting-in, waiting-slots}
+use Rattle.tb_codegen.proofs.OperationChains.{at-home, body}
 use Rattle.tb_codegen.proofs.BlockChains.{AllEntered, HomeOk, HomesOk, kept-apart}
 
 none-some : {y : ℕ} → None ≡ Some y → ⊥

@@ -1,41 +1,39 @@
 -- Procedures that are made together: the source makes all at once, the machine one after another.
-use Rattle.std.proofs.Common.{◌≡◌, refl, sym, ◌∙◌, subst, subst₂, ap, ℕ, zero, suc, ◌+◌, ◌-◌, ◌<◌, ◌≤◌, ◌⊎◌, ◌==◌, ◌%◌, Bool, cond, true, false, inl, inr, ⊎_elim, arith, List, [], ◌∷◌, ◌++◌, length, Option, Some, None, slice_get, slice_set, length-set, lt-ltb, le-ltb, eq-eqb, ne_eqb}
-use Rattle.std.specs.Prelude.{drop, pos, nat_le, filter, not}
-use Rattle.std.proofs.lemmas.Bool.{cases_Bool, cases_eq, cases_lt, le-leb, lt-leb}
+use Rattle.std.proofs.Common.{◌≡◌, refl, sym, ◌∙◌, subst, subst₂, ap, ℕ, zero, suc, ◌+◌, ◌-◌, ◌<◌, ◌≤◌, ◌⊎◌, Bool, cond, true, false, inl, inr, ⊎_elim, arith, List, [], ◌∷◌, ◌++◌, length, Option, Some, None, slice_get, slice_set, length-set, lt-ltb, le-ltb}
+use Rattle.std.specs.Prelude.{drop, nat_le}
+use Rattle.std.proofs.lemmas.Bool.{cases_Bool, cases_lt, le-leb, lt-leb}
 use Rattle.tb_prim.specs.declared.event.Taken.{Taken}
 use Rattle.tb_semantics.specs.Graph.{IsApart, IsIn}
 use Rattle.tb_semantics.specs.Runs.{run}
 use Rattle.tb_semantics.proofs.RunLaws.{run-add}
 use Rattle.tb_semantics.proofs.ListLemmas.{get-left, get-some, set-other, in-cases, in-left, in-right}
-use Rattle.tb_core.specs.FreeVariables.{is_in, of_lambdas, without}
+use Rattle.tb_core.specs.FreeVariables.{is_in, of_lambdas}
 use Rattle.tb_core.proofs.Members.{in-tested, in-without, tested-in}
 use Rattle.tb_core.specs.Store.{Value, At}
-use Rattle.tb_ir.specs.AnfTree.{Block, CloseAll, Op, AnfTree, ProcTree}
-use Rattle.tb_ir.specs.AnfMachine.{AnfConfig, AnfFrames, AnfState, Code, InBlock, InOp, captured_by}
-use Rattle.tb_ir.specs.Machine.{Control, Bound, Env, Empty, Eval, Item, Cell, Obj, Clo, Running, Val, bind_all, bind_located, closures, gather, lookup}
-use Rattle.tb_ir.specs.Space.{closures_in, made, made as made_of_store, words_in}
-use Rattle.tb_mac.specs.declared.code.Instr.{Instr}
+use Rattle.tb_ir.specs.AnfTree.{Block, CloseAll, AnfTree, ProcTree}
+use Rattle.tb_ir.specs.AnfMachine.{AnfFrames, AnfState, Code, InBlock, captured_by}
+use Rattle.tb_ir.specs.Machine.{Control, Bound, Env, Empty, Eval, Item, Clo, bind_all, bind_located, closures, gather, lookup}
+use Rattle.tb_ir.specs.Space.{made, made as made_of_store}
 use Rattle.tb_mac.specs.declared.code.Instr.TheVariants as I
 use Rattle.tb_mac.specs.declared.word.Word.{Word}
 use Rattle.tb_mac.specs.declared.word.Word.TheVariants as W
 use Rattle.tb_mac.specs.Assembled.{Assembled}
-use Rattle.tb_mac.specs.Frames.{Frame as MacFrame, framed_perform}
-use Rattle.tb_mac.specs.FramedRuns.{framed_after}
-use Rattle.tb_mac.specs.LiveWords.{closure_count, data_size, object_size as words_from}
+use Rattle.tb_mac.specs.Frames.{Frame as MacFrame}
+use Rattle.tb_mac.specs.LiveWords.{closure_count, data_size}
 use Rattle.tb_mac.specs.Objects.{new_procedure, procedure_kind, procedure_tag}
-use Rattle.tb_codegen.specs.Notes.{Entry, Stands, Spot, Reg, Slot, Symbol, Constant, Variable, Own, Here, Note, Inside, Point, AtBlock, AtAll, AtProc, Waiting}
+use Rattle.tb_codegen.specs.Notes.{Entry, Stands, Reg, Slot, Symbol, Variable, Own, Here, Note, Inside, AtBlock, AtAll, AtProc, Waiting}
 use Rattle.tb_codegen.specs.Generate.{captured_in, settled, zeros}
 use Rattle.tb_codegen.proofs.Cells.{at_end, at_next}
-use Rattle.tb_codegen.proofs.Changes.{From, Into, IsThat, StandsAt, is_that, Kept, k_const, k_var, k_deep, Same, Under}
-use Rattle.tb_codegen.proofs.Closures.{Half, half, filled_more, captured_there, in_procedure, long_procedure, mem_fill, procedure_made, p_fill, Values, values_of}
-use Rattle.tb_codegen.proofs.Envs.{get-in, get-set, get-set-other, get-within, lookup-gather, lookup-other, lookup-same}
+use Rattle.tb_codegen.proofs.Changes.{From, Into, IsThat, StandsAt, is_that, Kept, k_const, k_var, k_deep, Same}
+use Rattle.tb_codegen.proofs.Closures.{half, filled_more, captured_there, in_procedure, long_procedure, mem_fill, procedure_made, p_fill, values_of}
+use Rattle.tb_codegen.proofs.Envs.{get-in, get-set, get-within, lookup-gather, lookup-other, lookup-same}
 use Rattle.tb_codegen.proofs.Holding.{Changes, fs-more, holds-from, holds-into, holds-slot, moved, Puts, same-means, under}
 use Rattle.tb_codegen.proofs.Landing.{lands_block}
 use Rattle.tb_codegen.proofs.Memories.{agree_left, p_agree}
 use Rattle.tb_codegen.proofs.Moves.{done}
-use Rattle.tb_codegen.proofs.Ok.{catches, Entered, Fulls, HasNote, Onward, not_yet, all_done, Settles, StandOr, free}
-use Rattle.tb_codegen.proofs.Rel.{AllFacts, Caps, Closed, Fill, Grows, FsRel, globals_words, HasAny, Holds, JRel, Link, Lk, Linked, Means, m_name, Memory, Open, OpenAll, ORel, o_here, o_cell, o_pair, o_vector, o_string, o_symbol, o_procedure, OwnRel, IsBefore, IsCut, Part, PRel, PtRel, at_block, at_all, r_full, r_inside, Rel, Stores, Whole, World, WRel, w_at, env_at, fill_of, filled, first_of, open_of, part_of, step_of, tag_of, unmade}
-use Rattle.tb_codegen.proofs.Sim.{Mem, Sim, Still, machine, source, target}
+use Rattle.tb_codegen.proofs.Ok.{catches, Entered, Fulls, HasNote, Onward, not_yet, all_done, StandOr, free}
+use Rattle.tb_codegen.proofs.Rel.{AllFacts, Closed, FsRel, globals_words, Holds, JRel, Lk, Means, m_name, Memory, OpenAll, ORel, o_here, o_cell, o_pair, o_vector, o_string, o_symbol, o_procedure, OwnRel, IsCut, Part, PRel, PtRel, at_block, at_all, r_full, r_inside, Rel, Stores, Whole, World, WRel, w_at, fill_of, filled, first_of, open_of, part_of, step_of, unmade}
+use Rattle.tb_codegen.proofs.Sim.{Mem, Sim, Still, source, target}
 use Rattle.tb_codegen.proofs.Stored.{stores_new}
 
 -- variables that are bound to locations that follow one another

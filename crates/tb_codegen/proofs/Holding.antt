@@ -1,18 +1,16 @@
 -- What stands somewhere still does after an instruction, under names that change.
-use Rattle.std.proofs.Common.{◌≡◌, refl, sym, ◌∙◌, subst, ap, ℕ, zero, suc, ◌<◌, ◌⊎◌, inl, inr, ⊎_elim, arith, List, [], ◌∷◌, length, Option, Some, None, slice_get, slice_set}
-use Rattle.tb_prim.specs.declared.constant.Const.{Const}
+use Rattle.std.proofs.Common.{◌≡◌, refl, sym, ◌∙◌, subst, ap, ℕ, suc, ◌<◌, inl, inr, ⊎_elim, List, [], ◌∷◌, length, Option, Some, None, slice_set}
 use Rattle.tb_semantics.specs.Graph.{IsIn}
-use Rattle.tb_core.specs.Store.{Value, At, Unspecified}
-use Rattle.tb_core.specs.FreeVariables.{without}
-use Rattle.tb_ir.specs.AnfTree.{Block, AnfTree}
+use Rattle.tb_core.specs.Store.{Value}
+use Rattle.tb_ir.specs.AnfTree.{AnfTree}
 use Rattle.tb_ir.specs.AnfMachine.{AnfFrames}
-use Rattle.tb_ir.specs.Machine.{Clo, Env, Empty, Item, bind_all, gather, lookup}
+use Rattle.tb_ir.specs.Machine.{Env, Empty, Item, gather, lookup}
 use Rattle.tb_mac.specs.declared.word.Word.{Word}
 use Rattle.tb_mac.specs.Frames.{Frame as MacFrame}
-use Rattle.tb_codegen.specs.Notes.{Spot, Reg, Slot, Symbol, Constant, Variable, Itself, Capture, Entry, Stands, Note}
-use Rattle.tb_codegen.proofs.Changes.{deeper, From, Given, g_const, g_new, g_var, g_deep, Into, IsFirst, is_first, IsNew, is_new, IsThat, is_that, NoSlots, Same, same, StandsAt, stands_at, Under, u_const, u_own, u_waits, u_deep}
+use Rattle.tb_codegen.specs.Notes.{Spot, Reg, Slot, Symbol, Entry, Stands, Note}
+use Rattle.tb_codegen.proofs.Changes.{deeper, From, Given, g_const, g_new, g_var, g_deep, Into, IsFirst, is_first, IsNew, is_new, NoSlots, Same, same, StandsAt, stands_at, Under, u_const, u_own, u_waits, u_deep}
 use Rattle.tb_codegen.proofs.Envs.{get-set, get-set-other, lookup-gather, lookup-other, lookup-same}
-use Rattle.tb_codegen.proofs.Rel.{FsRel, f_none, f_then, f_top, Grows, Has, HasAny, Holds, Means, m_name, m_itself, m_capture, WRel, w_fix, w_char, w_false, w_true, w_nil, w_unspecified, w_undefined, w_end, w_at, World, PRel, p_none, p_full, p_zero, Saved, env_at, meaning, read}
+use Rattle.tb_codegen.proofs.Rel.{FsRel, f_none, f_then, f_top, Grows, Holds, Means, m_name, WRel, w_fix, w_char, w_false, w_true, w_nil, w_unspecified, w_undefined, w_end, w_at, World, Saved, env_at, meaning, read}
 
 -- a world that grows
 pub w-more : (w z : World) → Grows w z → (u : Word) (v : Value) → WRel w u v → WRel z u v

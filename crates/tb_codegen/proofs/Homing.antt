@@ -1,23 +1,13 @@
 -- The slots of variables that are named together are apart: a cell takes the slot of the variable that it is made
 -- from, which nothing else names.
-use Rattle.std.proofs.Common.{◌≡◌, true≢false, ℕ, zero, suc, ◌<◌, ◌≤◌, ◌+◌, ◌==◌, ◌⊎◌, Bool, true, false, cond, List, [], ◌∷◌, ◌++◌, length, Option, Some, None, refl, sym, ap, ◌∙◌, subst, inl, inr, ⊎_elim, append_assoc, append-nil, eq-eqb, eqb-true, arith}
-use Rattle.std.proofs.lemmas.Bool.{cases_eq}
+use Rattle.std.proofs.Common.{◌≡◌, true≢false, ℕ, suc, ◌<◌, ◌==◌, Bool, true, false, cond, List, [], ◌∷◌, ◌++◌, length, refl, sym, ap, ◌∙◌, subst, inl, inr, eq-eqb, eqb-true, arith}
 use Rattle.tb_semantics.specs.Graph.{IsApart, IsIn}
-use Rattle.tb_semantics.proofs.ListLemmas.{in-left, in-right, in-cases}
-use Rattle.tb_core.specs.FreeVariables.{is_in, of_lambdas, without}
-use Rattle.tb_core.specs.Rules.{Every}
-use Rattle.tb_core.proofs.Members.{in-tested, in-without, tested-in, without-sub}
-use Rattle.tb_ir.specs.AnfTree.{Operand, Quote, Var, Block, Bind, CloseAll, Tail, Op, Atom, Global, SetGlobal, DefGlobal, PrimUse, NewCell, CellGet, CellSet, Close, Call, Direct, Apply, Branch, ProcTree, AnfTree}
-use Rattle.tb_ir.specs.AnfMachine.{free_block, free_op, free_of_atom}
-use Rattle.tb_ir.specs.AnfRules.{KeepsRules, MakesCell, ProcKeeps, binders, blocks, blocks_in, named, names_outside, of_each, operation, plain_binders, times_named}
-use Rattle.tb_ir.specs.Rules.{times}
-use Rattle.tb_codegen.specs.Generate.{captured_in}
-use Rattle.tb_codegen.specs.Homes.{frame_size, index_of, made_from, origin, own_variables, slot_of}
-use Rattle.tb_codegen.specs.Notes.{Noted}
-use Rattle.tb_codegen.proofs.Ok.{free}
-use Rattle.tb_codegen.proofs.BlockChains.{HomeOk, HomesOk, kept-apart, kept-other}
-use Rattle.tb_codegen.proofs.EntryChains.{apart-left, apart-right}
-use Rattle.tb_codegen.proofs.Namings.{IsProc, Uses, block-uses, by_lambda, by_operation, closed_within, each-append, every-at, in-each, in-proc, named-once, named-only, named_within, times-append, times-bind, times-in}
+use Rattle.tb_semantics.proofs.ListLemmas.{in-right}
+use Rattle.tb_ir.specs.AnfTree.{Block, Bind, CloseAll, Tail, Op}
+use Rattle.tb_ir.specs.AnfRules.{binders, of_each}
+use Rattle.tb_codegen.specs.Homes.{index_of, made_from, origin}
+use Rattle.tb_codegen.proofs.EntryChains.{apart-right}
+use Rattle.tb_codegen.proofs.Namings.{in-each}
 
 -- indexes in a list
 pub index-below : (xs : List ℕ) (x : ℕ) → IsIn x xs → index_of xs x < length xs

@@ -1,35 +1,34 @@
 -- Code that follows its notes keeps the program in A-normal form: events, what is held, and what is made.
-use Rattle.std.proofs.Common.{◌≡◌, refl, sym, ◌∙◌, subst, subst₂, ap, ℕ, zero, suc, ◌+◌, ◌%◌, ◌<◌, ◌≤◌, ◌⊎◌, true, arith, inl, inr, ⊎_elim, List, [], ◌∷◌, ◌++◌, length, drop, Option, Some, None, slice_get}
+use Rattle.std.proofs.Common.{◌≡◌, refl, sym, ◌∙◌, subst, ap, ℕ, zero, suc, ◌+◌, ◌%◌, ◌≤◌, true, arith, ⊎_elim, List, [], ◌∷◌, ◌++◌, length, drop, Option, Some, slice_get}
 use Rattle.tb_prim.specs.declared.event.Event.{Event}
-use Rattle.tb_semantics.specs.Graph.{Graph, IsIn, Reaches, root, below, total, with_roots}
-use Rattle.tb_semantics.specs.Keeps.{Fits, Keeps, Measured}
+use Rattle.tb_semantics.specs.Graph.{Graph, IsIn, root, below, total, with_roots}
+use Rattle.tb_semantics.specs.Keeps.{Fits, Keeps}
 use Rattle.tb_semantics.specs.Runs.{after}
 use Rattle.tb_semantics.proofs.ListLemmas.{in-cases, in-left, in-right}
 use Rattle.tb_semantics.proofs.Reachable.{total-more}
-use Rattle.tb_semantics.proofs.Simulation.{Alike, Simulates, keeps_from}
+use Rattle.tb_semantics.proofs.Simulation.{Alike, keeps_from}
 use Rattle.tb_core.specs.Space.{values_locations}
-use Rattle.tb_ir.specs.AnfTree.{AnfTree, ProcTree}
-use Rattle.tb_ir.specs.AnfMachine.{AnfConfig, AnfFrames, AnfState, anf_machine, language, proc_of}
+use Rattle.tb_ir.specs.AnfTree.{AnfTree}
+use Rattle.tb_ir.specs.AnfMachine.{AnfConfig, AnfFrames, AnfState, anf_machine, language}
 use Rattle.tb_ir.specs.Machine.{Closure, Entering, Item, Running, config_of, mark_top, start_of}
 use Rattle.tb_ir.specs.Measures.{anf_measured, shape_of}
-use Rattle.tb_ir.specs.Space.{closures_in, control_locations, frames_locations, made, made_of, marks, of_item, store_graph, words_in}
+use Rattle.tb_ir.specs.Space.{closures_in, control_locations, frames_locations, made, made_of, marks, of_item, words_in}
 use Rattle.tb_ir.proofs.OwnSteps.{anf-steps}
 use Rattle.tb_ir.proofs.Steps.{in-order}
 use Rattle.tb_mac.specs.declared.code.Instr.{Instr}
 use Rattle.tb_mac.specs.declared.word.Word.{Word}
 use Rattle.tb_mac.specs.Assembled.{Assembled}
 use Rattle.tb_mac.specs.Frames.{Framed}
-use Rattle.tb_mac.specs.FramedRuns.{FramedState, Runs, Stays, framed_made, framed_of, framed_shape, framed_start, made_in, measured_machine}
+use Rattle.tb_mac.specs.FramedRuns.{FramedState, Runs, framed_made, framed_of, framed_shape, framed_start, made_in, measured_machine}
 use Rattle.tb_mac.specs.Layout.{globals_size}
 use Rattle.tb_mac.specs.LiveWords.{closure_count, counts_now, data_size, is_counted, object_size as words_from}
-use Rattle.tb_mac.specs.Words.{on_some}
 use Rattle.tb_codegen.specs.Notes.{Entry, Stands, Spot, Reg, Itself, Note, Inside, AtProc, AtArgs, Own, Point}
-use Rattle.tb_codegen.proofs.Ok.{Falls, Follows, Further, HasNote, Ok, ok_args, ok_args_ge, ok_proc}
-use Rattle.tb_codegen.proofs.Rel.{Chained, ch_end, ch_more, globals_words, Goes, Closed, Memory, Onto, Open, Rel, r_args, r_calls, r_failed, r_full, r_inside, r_lifted, r_lost, r_stopped, Stores, World, framed, open_of}
+use Rattle.tb_codegen.proofs.Ok.{Follows, Further, HasNote, Ok, ok_args, ok_args_ge, ok_proc}
+use Rattle.tb_codegen.proofs.Rel.{Chained, ch_end, ch_more, globals_words, Goes, Closed, Memory, Onto, Open, Rel, r_args, r_calls, r_failed, r_full, r_inside, r_lifted, r_lost, r_stopped, World, framed, open_of}
 use Rattle.tb_codegen.proofs.Sim.{measure}
 use Rattle.tb_codegen.proofs.Space.{Cover, closed_graph, control_root, entry_cover, frames_root, frames_waiting, graph, inside_cover, lifted_cover, marked_locations, own_frames, point_marks, totals}
 use Rattle.tb_codegen.proofs.Steps.{Unmarked}
-use Rattle.tb_codegen.proofs.Whole.{AllConstants, R, Reached, moves, same_events}
+use Rattle.tb_codegen.proofs.Whole.{AllConstants, R, moves, same_events}
 
 -- only register 0 holds the procedure itself
 pub record OnlyFirst (p : AnfTree) (notes : List Note) : Type 0 where

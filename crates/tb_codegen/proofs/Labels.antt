@@ -1,16 +1,16 @@
 -- No label stands twice among the items of a program: each block has labels of its own, from its first one on.
-use Rattle.std.proofs.Common.{◌≡◌, ℕ, zero, suc, ◌<◌, ◌≤◌, ◌+◌, ◌⊎◌, Bool, true, false, cond, List, [], ◌∷◌, ◌++◌, length, Option, Some, None, refl, sym, ap, ◌∙◌, subst, inl, inr, ⊎_elim, append-nil, arith}
+use Rattle.std.proofs.Common.{◌≡◌, ℕ, suc, ◌<◌, ◌≤◌, ◌+◌, ◌⊎◌, Bool, true, false, cond, List, [], ◌∷◌, ◌++◌, length, Some, None, refl, sym, ap, ◌∙◌, subst, inl, inr, ⊎_elim, append-nil, arith}
 use Rattle.tb_semantics.specs.Graph.{IsApart, IsIn}
-use Rattle.tb_semantics.proofs.ListLemmas.{in-left, in-right, in-cases}
+use Rattle.tb_semantics.proofs.ListLemmas.{in-cases}
 use Rattle.tb_core.specs.FreeVariables.{is_in}
-use Rattle.tb_ir.specs.AnfTree.{Operand, Quote, Var, Block, Bind, CloseAll, Tail, Op, Atom, Global, SetGlobal, DefGlobal, PrimUse, NewCell, CellGet, CellSet, Close, Call, Direct, Apply, Branch, ProcTree, AnfTree}
+use Rattle.tb_ir.specs.AnfTree.{Operand, Block, Bind, CloseAll, Tail, Op, Atom, Global, SetGlobal, DefGlobal, PrimUse, NewCell, CellGet, CellSet, Close, Call, Direct, Apply, Branch, ProcTree, AnfTree}
 use Rattle.tb_ir.specs.AnfRules.{forms_of, lambdas_of}
 use Rattle.tb_ir.specs.AnfMachine.{free_block}
 use Rattle.tb_mac.specs.declared.code.Instr.TheVariants as I
 use Rattle.tb_mac.specs.Assemble.{labels}
 use Rattle.tb_codegen.specs.Notes.{Entry, Waiting, ToCaller, ToTop, Then, Point, AtBlock, AtAll, Note, AtProc, AtArgs, AtLifted, Noted, Mark, Does}
 use Rattle.tb_codegen.specs.Homes.{frame_size, slot_of}
-use Rattle.tb_codegen.specs.Operations.{Body, behind, block_map, evaluated, fills, first_register, is_call, leaving, load, loads, operands, returning, simple, unspecified_result}
+use Rattle.tb_codegen.specs.Operations.{Body, behind, block_map, evaluated, fills, first_register, is_call, leaving, loads, operands, returning, simple}
 use Rattle.tb_codegen.specs.Generate.{all_words, block_note, body_of, captured_in, counting, counts, group_map, operands_map, zeros, code_block, code_bound, code_form, code_forms, code_lambda, code_lambdas, code_last, entry, frame_made, given, group, keep, labels_in, labels_of, labels_within, last, makes, noted_items, passed, passing, stores_captured, stores_operands, words, writes}
 use Rattle.tb_codegen.proofs.Assembling.{items_of}
 use Rattle.tb_codegen.proofs.OperationChains.{body}

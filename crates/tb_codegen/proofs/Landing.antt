@@ -1,21 +1,21 @@
 -- Where a step of the machine comes to a value, or to a block, as the source does.
-use Rattle.std.proofs.Common.{◌≡◌, refl, sym, ◌∙◌, subst, ap, ℕ, zero, suc, ◌+◌, ◌<◌, ◌⊎◌, ◌==◌, Bool, true, false, inl, inr, ⊎_elim, arith, List, [], ◌∷◌, ◌++◌, length, Option, Some, None, slice_get}
+use Rattle.std.proofs.Common.{◌≡◌, refl, sym, ◌∙◌, subst, ap, ℕ, suc, ◌+◌, ◌<◌, inl, arith, List, [], ◌∷◌, ◌++◌, length}
 use Rattle.std.proofs.Common.{append-nil}
 use Rattle.tb_semantics.specs.Graph.{IsIn}
 use Rattle.tb_semantics.specs.Runs.{run}
 use Rattle.tb_semantics.proofs.RunLaws.{run-add}
-use Rattle.tb_core.specs.FreeVariables.{is_in, without}
+use Rattle.tb_core.specs.FreeVariables.{without}
 use Rattle.tb_core.specs.Store.{Value}
-use Rattle.tb_ir.specs.AnfTree.{Block, Bind, CloseAll, Tail, AnfTree}
-use Rattle.tb_ir.specs.AnfMachine.{AnfFrames, AnfState, Code, InBlock}
-use Rattle.tb_ir.specs.Machine.{Control, Bound, Env, Empty, Eval, Item, Val, gather}
+use Rattle.tb_ir.specs.AnfTree.{Block, CloseAll, AnfTree}
+use Rattle.tb_ir.specs.AnfMachine.{AnfFrames, AnfState, InBlock}
+use Rattle.tb_ir.specs.Machine.{Env, Empty, Eval, Val, gather}
 use Rattle.tb_mac.specs.declared.word.Word.{Word}
 use Rattle.tb_mac.specs.Frames.{Frame as MacFrame}
 use Rattle.tb_codegen.specs.Notes.{Entry, Own, Note, Inside, AtBlock, AtValue, Waiting}
 use Rattle.tb_codegen.specs.Generate.{settled}
-use Rattle.tb_codegen.proofs.Envs.{gather-sub, gather-agree, lookup-gather}
+use Rattle.tb_codegen.proofs.Envs.{gather-sub}
 use Rattle.tb_codegen.proofs.Ok.{HasNote, Settles, s_more, s_group, s_bind, s_tail, free}
-use Rattle.tb_codegen.proofs.Rel.{Closed, FsRel, Goes, Holds, JRel, Memory, OwnRel, PtRel, at_block, at_value, Rel, World, r_inside, step_of}
+use Rattle.tb_codegen.proofs.Rel.{Closed, FsRel, Holds, JRel, Memory, OwnRel, at_block, at_value, Rel, World, r_inside, step_of}
 use Rattle.tb_codegen.proofs.Sim.{Sim, Still, source, target}
 
 without_none : (xs : List ℕ) → without [] xs ≡ xs

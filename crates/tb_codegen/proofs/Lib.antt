@@ -22,6 +22,7 @@ pub mod Fields
 pub mod AllFields
 pub mod Bounded
 pub mod FineNotes
+pub mod Items
 pub mod Envs
 pub mod Holding
 pub mod Sim
@@ -50,3 +51,8 @@ pub mod Bits
 pub mod Seen
 pub mod Space
 pub mod Keeping
+pub mod Begin
+pub mod Follows
+pub mod Walks
+pub mod Marks
+pub mod MarkSteps

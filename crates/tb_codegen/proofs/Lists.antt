@@ -1,26 +1,25 @@
 -- The list of a rest parameter: its pairs are made at once.
-use Rattle.std.proofs.Common.{◌≡◌, refl, sym, ◌∙◌, subst, subst₂, ap, ℕ, zero, suc, ◌+◌, ◌-◌, ◌*◌, ◌<◌, ◌≤◌, ◌⊎◌, ◌==◌, ◌%◌, inl, inr, ⊎_elim, arith, List, [], ◌∷◌, ◌++◌, length, map, Option, Some, None, slice_get, Bool, append-nil, append_assoc}
-use Rattle.std.proofs.lemmas.Bool.{cases_eq, cases_lt}
+use Rattle.std.proofs.Common.{◌≡◌, refl, sym, ◌∙◌, subst, subst₂, ap, ℕ, zero, suc, ◌+◌, ◌*◌, ◌<◌, ◌≤◌, ◌⊎◌, inl, inr, ⊎_elim, arith, List, [], ◌∷◌, ◌++◌, length, map, Option, Some, slice_get, Bool, append-nil, append_assoc}
+use Rattle.std.proofs.lemmas.Bool.{cases_lt}
 use Rattle.std.proofs.lemmas.List.{length-append}
 use Rattle.tb_prim.specs.declared.event.Taken.{Taken}
 use Rattle.tb_semantics.specs.Graph.{IsIn}
 use Rattle.tb_semantics.proofs.ListLemmas.{get-left, in-cases, in-left, in-right}
-use Rattle.tb_core.specs.Store.{Value, At, Nil, Object, Pair}
+use Rattle.tb_core.specs.Store.{Value, Pair}
 use Rattle.tb_core.specs.Lists.{list_objects, list_value}
 use Rattle.tb_ir.specs.AnfTree.{AnfTree}
 use Rattle.tb_ir.specs.Machine.{Item, Obj}
-use Rattle.tb_ir.specs.Space.{closures_in, made, words_in}
+use Rattle.tb_ir.specs.Space.{made}
 use Rattle.tb_mac.specs.declared.word.Word.{Word}
-use Rattle.tb_mac.specs.declared.word.Word.TheVariants as W
 use Rattle.tb_mac.specs.LiveWords.{closure_count, data_size, object_size as words_from}
 use Rattle.tb_mac.specs.MacStep.{list_at, list_words}
 use Rattle.tb_mac.specs.Objects.{pair_tag}
 use Rattle.tb_codegen.specs.Notes.{Note}
-use Rattle.tb_codegen.proofs.Cells.{at_end, at_next, made_more}
+use Rattle.tb_codegen.proofs.Cells.{at_end, at_next}
 use Rattle.tb_codegen.proofs.Envs.{get-within}
 use Rattle.tb_codegen.proofs.Holding.{w-more}
 use Rattle.tb_codegen.proofs.Memories.{agree_left, chained_new, p_agree, plain_word}
-use Rattle.tb_codegen.proofs.Rel.{Chained, Closed, Grows, globals_words, Link, Lk, Linked, Memory, ORel, o_pair, PRel, p_none, p_full, Stores, Whole, World, WRel, w_at, w_nil, WsRel, ws_none, ws_more, tag_of}
+use Rattle.tb_codegen.proofs.Rel.{Chained, Closed, Grows, globals_words, Link, Lk, Memory, o_pair, PRel, p_none, p_full, Stores, Whole, World, WRel, w_at, w_nil, WsRel, ws_none, ws_more}
 use Rattle.tb_codegen.proofs.Stored.{chained_le, is_within, o_agree}
 
 -- the links of the pairs of a list

@@ -1,14 +1,13 @@
 -- What stands where in the maps of notes: variables in their slots, those of blocks that wait, operands in registers.
-use Rattle.std.proofs.Common.{◌≡◌, ℕ, zero, suc, ◌<◌, ◌≤◌, ◌+◌, ◌⊎◌, List, [], ◌∷◌, ◌++◌, length, Option, Some, None, refl, sym, ap, ◌∙◌, subst, inl, inr, ⊎_elim, arith}
-use Rattle.tb_prim.specs.declared.constant.Const.{Const}
+use Rattle.std.proofs.Common.{◌≡◌, ℕ, zero, suc, ◌<◌, List, [], ◌∷◌, refl, sym, ap, ◌∙◌, subst, inl, inr, ⊎_elim, arith}
 use Rattle.tb_semantics.specs.Graph.{IsIn}
 use Rattle.tb_semantics.proofs.ListLemmas.{in-left, in-right, in-cases}
 use Rattle.tb_core.specs.FreeVariables.{without}
-use Rattle.tb_ir.specs.AnfTree.{Operand, Quote, Var, Block, Bind, CloseAll, Tail, Op}
-use Rattle.tb_ir.specs.AnfMachine.{free_block, free_op}
-use Rattle.tb_codegen.specs.Notes.{Spot, Reg, Slot, Symbol, Constant, Variable, Itself, Capture, Entry, Stands, Waiting, ToCaller, ToTop, Then, symbol_of}
-use Rattle.tb_codegen.specs.Operations.{Body, variables, waiting_map, block_map, value_map, loaded}
-use Rattle.tb_codegen.proofs.Changes.{OpAt, at_bind, at_tail, Under, u_const, u_own, u_waits, u_deep, Same, same, From, Into, IsThat, is_that, Args, no_args, an_arg, from_register}
+use Rattle.tb_ir.specs.AnfTree.{Operand, Block}
+use Rattle.tb_ir.specs.AnfMachine.{free_block}
+use Rattle.tb_codegen.specs.Notes.{Spot, Reg, Slot, Symbol, Variable, Entry, Stands, Waiting, ToCaller, ToTop, Then, symbol_of}
+use Rattle.tb_codegen.specs.Operations.{Body, variables, waiting_map, block_map, loaded}
+use Rattle.tb_codegen.proofs.Changes.{Same, same, Into, Args, no_args, an_arg, from_register}
 
 -- an entry says one thing
 pub entry-spot : (q r : Spot) (s t : Symbol) → Stands q s ≡ Stands r t → r ≡ q

@@ -1,21 +1,15 @@
 -- The heap and the store, when a word is written and when an object is made.
-use Rattle.std.proofs.Common.{◌≡◌, refl, sym, ◌∙◌, subst, subst₂, ap, ℕ, zero, suc, ◌+◌, ◌-◌, ◌<◌, ◌≤◌, ◌⊎◌, ◌==◌, ◌/◌, ◌%◌, Bool, cond, true, false, inl, inr, ⊎_elim, arith, List, [], ◌∷◌, ◌++◌, length, Option, Some, None, slice_get, slice_set, length-set, eq-eqb, ne_eqb}
-use Rattle.std.specs.Prelude.{pos}
+use Rattle.std.proofs.Common.{◌≡◌, refl, sym, ◌∙◌, subst, subst₂, ap, ℕ, zero, suc, ◌+◌, ◌<◌, ◌≤◌, ◌⊎◌, inl, ⊎_elim, arith, List, [], ◌∷◌, ◌++◌, length, Some, slice_get, slice_set, length-set}
 use Rattle.std.proofs.lemmas.Bool.{cases_eq}
 use Rattle.std.proofs.lemmas.List.{length-append}
-use Rattle.tb_semantics.specs.Graph.{IsIn}
-use Rattle.tb_semantics.proofs.ListLemmas.{get-last, get-left, set-other}
-use Rattle.tb_core.specs.Store.{Value, Object, Pair, Vec, Str, Sym}
-use Rattle.tb_ir.specs.AnfTree.{AnfTree}
-use Rattle.tb_ir.specs.Machine.{Item, Cell, Obj, Clo}
-use Rattle.tb_ir.specs.Space.{closures_in, made, words_in}
+use Rattle.tb_semantics.proofs.ListLemmas.{get-left}
+use Rattle.tb_core.specs.Store.{Value}
 use Rattle.tb_mac.specs.declared.word.Word.{Word}
 use Rattle.tb_mac.specs.declared.word.Word.TheVariants as W
 use Rattle.tb_mac.specs.LiveWords.{closure_count, data_size, object_size as words_from}
-use Rattle.tb_codegen.specs.Notes.{Note}
 use Rattle.tb_codegen.proofs.Envs.{get-set, get-set-other, get-within}
 use Rattle.tb_codegen.proofs.Holding.{w-more}
-use Rattle.tb_codegen.proofs.Rel.{BytesAt, Chained, ch_end, ch_more, Closed, Fill, Grows, IsBefore, Link, Lk, Linked, Open, ORel, o_cell, o_pair, o_vector, o_string, o_symbol, o_procedure, Part, PRel, p_none, p_full, p_zero, Stores, Whole, World, WRel, w_fix, w_char, w_false, w_true, w_nil, w_unspecified, w_undefined, w_end, w_at, WsRel, fill_of, filled, tag_of}
+use Rattle.tb_codegen.proofs.Rel.{Chained, ch_end, ch_more, Grows, PRel, p_none, p_full, p_zero, World, WRel, w_fix, w_char, w_false, w_true, w_nil, w_unspecified, w_undefined, w_end, w_at}
 
 -- a word that begins no object but a pair
 pub record IsPlain (u : Word) : Type 0 where

@@ -1,12 +1,12 @@
 -- Words that go from one place to another, and frames that are made and taken away.
-use Rattle.std.proofs.Common.{◌≡◌, refl, sym, ◌∙◌, subst, ap, ℕ, zero, suc, ◌+◌, ◌-◌, ◌<◌, ◌≤◌, ◌⊎◌, ◌==◌, Bool, true, false, cond, inl, inr, ⊎_elim, arith, List, [], ◌∷◌, ◌++◌, length, Option, Some, None, slice_get, slice_set, IsTrue, length-set, length-drop, eq-eqb, lt-ltb, le-ltb}
-use Rattle.std.specs.Prelude.{nat_lt, nat_le, take, drop, pos}
+use Rattle.std.proofs.Common.{◌≡◌, refl, ◌∙◌, ℕ, ◌+◌, ◌-◌, ◌<◌, true, false, inr, ⊎_elim, arith, List, [], ◌∷◌, ◌++◌, length, Some, slice_set, length-set, length-drop, eq-eqb, lt-ltb, le-ltb}
+use Rattle.std.specs.Prelude.{take, drop, pos}
 use Rattle.std.proofs.lemmas.Bool.{cases_lt}
 use Rattle.tb_semantics.specs.Graph.{IsIn}
 use Rattle.tb_mac.specs.declared.word.Word.TheVariants as W
 use Rattle.tb_ir.specs.AnfTree.{AnfTree}
-use Rattle.tb_ir.specs.AnfMachine.{AnfFrames, AnfState, Code}
-use Rattle.tb_ir.specs.Machine.{Control, Env, Item, Running}
+use Rattle.tb_ir.specs.AnfMachine.{AnfFrames, Code}
+use Rattle.tb_ir.specs.Machine.{Control, Env, Item}
 use Rattle.tb_mac.specs.declared.code.Instr.{Instr}
 use Rattle.tb_mac.specs.declared.code.Instr.TheVariants as I
 use Rattle.tb_mac.specs.declared.word.Word.{Word}
@@ -14,18 +14,18 @@ use Rattle.tb_prim.specs.declared.constant.Const.{Const}
 use Rattle.tb_core.specs.Store.{value_of}
 use Rattle.tb_mac.specs.Assembled.{Assembled}
 use Rattle.tb_mac.specs.Words.{imm_bits, imm_word}
-use Rattle.tb_mac.specs.Layout.{addresses, addresses_from, const_word, static_tag}
+use Rattle.tb_mac.specs.Layout.{addresses, addresses_from, static_tag}
 use Rattle.tb_mac.proofs.Immediates.{imm_word-imm_bits}
 use Rattle.tb_semantics.proofs.ListLemmas.{get-some}
 use Rattle.tb_codegen.specs.Operations.{constant}
-use Rattle.tb_mac.specs.Frames.{Frame as MacFrame, Framed, FramedOutcome, Continues, framed_perform, gets}
-use Rattle.tb_mac.specs.FramedRuns.{FramedState, Runs, Stays, framed_after}
-use Rattle.tb_codegen.specs.Notes.{Constant, Entry, Stands, Spot, Reg, Slot, Symbol, Own, Here, Away, Ready, Note, Inside, Point}
+use Rattle.tb_mac.specs.Frames.{Frame as MacFrame, Continues, framed_perform, gets}
+use Rattle.tb_mac.specs.FramedRuns.{FramedState, framed_after}
+use Rattle.tb_codegen.specs.Notes.{Constant, Entry, Stands, Reg, Slot, Symbol, Own, Here, Away, Ready, Note, Inside, Point}
 use Rattle.tb_codegen.proofs.Changes.{From, Into, IsThat, is_that, NoSlots, Same, StandsAt}
 use Rattle.tb_codegen.proofs.Holding.{holds-any, holds-from, holds-into, holds-none, holds-slot, moved, Puts, same-means}
 use Rattle.tb_codegen.proofs.Ok.{HasNote, IsWritten}
-use Rattle.tb_codegen.proofs.Rel.{FsRel, Goes, globals_words, Holds, Memory, OwnRel, o_away, o_here, o_ready, PtRel, Rel, World, WRel, m_name, w_at, w_char, w_false, w_fix, w_nil, w_true, w_undefined, w_unspecified, config, framed, open_of, r_full, r_inside, step_of}
-use Rattle.tb_codegen.proofs.Sim.{Mem, Sim, Still, machine, quiet, source, target}
+use Rattle.tb_codegen.proofs.Rel.{FsRel, globals_words, Holds, OwnRel, o_away, o_here, o_ready, PtRel, World, WRel, m_name, w_at, w_char, w_false, w_fix, w_nil, w_true, w_undefined, w_unspecified, r_full, r_inside}
+use Rattle.tb_codegen.proofs.Sim.{Mem, Sim, Still, machine, quiet, source}
 
 module _ (p : AnfTree) (notes : List Note) (limit : ℕ) (c : Assembled) where
   -- the state behind an instruction

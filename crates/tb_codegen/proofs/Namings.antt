@@ -1,14 +1,14 @@
 -- How often the operations of a program name a variable: a variable that a block names is named by one of its
 -- operations, or by one of a lambda inside.
-use Rattle.std.proofs.Common.{◌≡◌, true≢false, ℕ, zero, suc, ◌<◌, ◌≤◌, ◌+◌, ◌-◌, ◌==◌, ◌⊎◌, Bool, true, false, cond, not, filter, List, [], ◌∷◌, ◌++◌, length, Option, Some, None, slice_get, refl, sym, ap, ◌∙◌, subst, inl, inr, ⊎_elim, append_assoc, append-nil, zero-add, eq-eqb, eqb-true, arith}
-use Rattle.tb_semantics.specs.Graph.{IsApart, IsIn}
+use Rattle.std.proofs.Common.{◌≡◌, true≢false, ℕ, zero, suc, ◌<◌, ◌≤◌, ◌+◌, ◌==◌, Bool, true, false, cond, filter, List, [], ◌∷◌, ◌++◌, length, Option, Some, None, refl, sym, ap, ◌∙◌, subst, inl, inr, ⊎_elim, append_assoc, append-nil, zero-add, eq-eqb, eqb-true, arith}
+use Rattle.tb_semantics.specs.Graph.{IsIn}
 use Rattle.tb_semantics.proofs.ListLemmas.{in-left, in-right, in-cases}
-use Rattle.tb_core.specs.FreeVariables.{is_in, of_lambdas, without}
+use Rattle.tb_core.specs.FreeVariables.{is_in, of_lambdas}
 use Rattle.tb_core.specs.Rules.{Every}
 use Rattle.tb_core.proofs.Members.{in-tested, without-sub}
-use Rattle.tb_ir.specs.AnfTree.{Operand, Quote, Var, Block, Bind, CloseAll, Tail, Op, Atom, Global, SetGlobal, DefGlobal, PrimUse, NewCell, CellGet, CellSet, Close, Call, Direct, Apply, Branch, ProcTree, AnfTree}
-use Rattle.tb_ir.specs.AnfMachine.{captured_by, free_block, free_of_atom, free_of_atoms, free_op, is_number, proc_of}
-use Rattle.tb_ir.specs.AnfRules.{BlockKeeps, InnerGreater, KeepsRules, Numbered, ProcKeeps, all_blocks, blocks, blocks_in, blocks_of, closed_by, forms_of, is_form, lambdas_of, named, names_outside, of_each, operation, operations, standing_at, times_named}
+use Rattle.tb_ir.specs.AnfTree.{Operand, Block, Bind, CloseAll, Tail, Op, Atom, Global, SetGlobal, DefGlobal, PrimUse, NewCell, CellGet, CellSet, Close, Call, Direct, Apply, Branch, ProcTree, AnfTree}
+use Rattle.tb_ir.specs.AnfMachine.{captured_by, free_block, free_of_atom, free_op, is_number, proc_of}
+use Rattle.tb_ir.specs.AnfRules.{InnerGreater, KeepsRules, Numbered, ProcKeeps, blocks, blocks_in, blocks_of, closed_by, forms_of, is_form, lambdas_of, named, names_outside, of_each, operation, standing_at, times_named}
 use Rattle.tb_ir.specs.Rules.{times}
 use Rattle.tb_codegen.specs.Generate.{captured_in}
 

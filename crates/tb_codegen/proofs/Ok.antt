@@ -1,11 +1,10 @@
 -- What an instruction must be to its note, to the note behind it, and to the notes of the places that it names.
-use Rattle.std.proofs.Common.{◌≡◌, ℕ, suc, ◌<◌, ◌≤◌, ◌-◌, ◌⊎◌, ◌++◌, ◌+◌, true, false, List, [], ◌∷◌, length, Option, Some, None, slice_get, slice_set}
+use Rattle.std.proofs.Common.{◌≡◌, ℕ, suc, ◌<◌, ◌≤◌, ◌⊎◌, ◌++◌, ◌+◌, true, false, List, [], ◌∷◌, length, Option, Some, None, slice_get, slice_set}
 use Rattle.tb_prim.specs.declared.place.Place.{Place}
 use Rattle.tb_prim.specs.declared.constant.Const.{Const}
 use Rattle.tb_prim.specs.declared.primitive.Primitive.{Primitive}
 use Rattle.tb_prim.specs.Primitives.{number_of}
 use Rattle.tb_semantics.specs.Graph.{IsIn, IsApart}
-use Rattle.tb_core.specs.FreeVariables.{without}
 use Rattle.tb_ir.specs.AnfTree.{Operand, Quote, Var, Block, Bind, CloseAll, Tail, Op, Atom, Global, SetGlobal, DefGlobal, PrimUse, NewCell, CellGet, CellSet, Close, Call, Direct, Apply, Branch, ProcTree, AnfTree}
 use Rattle.tb_ir.specs.AnfMachine.{InBlock, free_block, form_of, proc_of}
 use Rattle.tb_mac.specs.declared.code.Instr.{Instr}
@@ -19,7 +18,7 @@ use Rattle.tb_mac.specs.MacStep.{place_of}
 use Rattle.tb_codegen.specs.Notes.{Spot, Reg, Slot, Symbol, Constant, Variable, Itself, Capture, Entry, Stands, Waiting, ToCaller, ToTop, Then, Point, AtBlock, AtValue, AtUnspecified, AtFill, AtAll, Own, Away, Here, Ready, Note, Inside, AtProc, AtArgs, AtLifted, note_map, symbol_of}
 use Rattle.tb_codegen.specs.Operations.{constant, operands, place}
 use Rattle.tb_codegen.specs.Generate.{captured_in, settled, zeros}
-use Rattle.tb_codegen.proofs.Changes.{OpAt, Under, Given, Same, IsFirst, IsNew, IsThat, StandsAt, From, Into, NoSlots, Args, from_register, Backs, HasFrame, Param, Starts, StartsLifted, Caught, Opens, Kept}
+use Rattle.tb_codegen.proofs.Changes.{OpAt, Under, Given, Same, IsFirst, IsNew, IsThat, StandsAt, From, Into, NoSlots, Args, from_register, Backs, HasFrame, Starts, StartsLifted, Caught, Opens, Kept}
 
 -- an instruction can write the constant, or it is a static object that is there
 abbrev pub IsWritten : List Static → Const → Type 0

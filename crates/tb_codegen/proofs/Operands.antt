@@ -1,9 +1,8 @@
 -- Operations: how the source comes to one, the values of its operands, and where its value comes to RESULT.
-use Rattle.std.proofs.Common.{◌≡◌, refl, sym, ◌∙◌, subst, ap, ℕ, zero, suc, ◌+◌, ◌-◌, ◌<◌, ◌≤◌, ◌⊎◌, ◌==◌, Bool, true, false, inl, inr, ⊎_elim, arith, List, [], ◌∷◌, ◌++◌, length, Option, Some, None, slice_get, slice_set, length-set}
+use Rattle.std.proofs.Common.{◌≡◌, refl, sym, ◌∙◌, subst, ap, ℕ, suc, ◌+◌, ◌<◌, false, inl, inr, ⊎_elim, arith, List, [], ◌∷◌, ◌++◌, length, Option, Some, None, slice_get, slice_set, length-set}
 use Rattle.tb_prim.specs.declared.event.Event.{Event}
 use Rattle.tb_prim.specs.declared.event.Stop.{Stop}
 use Rattle.tb_semantics.specs.Graph.{IsIn}
-use Rattle.tb_semantics.specs.Runs.{run}
 use Rattle.tb_semantics.proofs.ListLemmas.{in-cases, in-left, in-right}
 use Rattle.std.proofs.lemmas.Bool.{cases_eq}
 use Rattle.tb_core.specs.FreeVariables.{without}
@@ -12,12 +11,12 @@ use Rattle.tb_core.specs.Store.{Value, Unspecified}
 use Rattle.tb_ir.specs.Space.{frames_locations}
 use Rattle.tb_ir.specs.TreeMachine.{env_values}
 use Rattle.tb_ir.specs.AnfTree.{Operand, Quote, Var, Block, Op, Atom, Global, SetGlobal, DefGlobal, PrimUse, NewCell, CellGet, CellSet, Close, Call, Direct, Apply, Branch, AnfTree}
-use Rattle.tb_ir.specs.AnfMachine.{AnfConfig, AnfFrames, AnfState, Code, InBlock, InOp, atom_value, atom_values, both, free_of_atom, free_of_atoms, free_op, language, run_op}
-use Rattle.tb_ir.specs.Machine.{Control, Env, Empty, Eval, Item, Running, Lost, Stopped, Val, bind_found, gather, lookup}
+use Rattle.tb_ir.specs.AnfMachine.{AnfFrames, AnfState, InBlock, InOp, atom_value, atom_values, free_of_atom, free_of_atoms, free_op, language}
+use Rattle.tb_ir.specs.Machine.{Env, Empty, Eval, Item, Lost, Stopped, Val, bind_found, gather, lookup}
 use Rattle.tb_mac.specs.declared.word.Word.{Word}
 use Rattle.tb_mac.specs.Frames.{Frame as MacFrame}
 use Rattle.tb_mac.specs.FramedRuns.{Stays, is_full_stop}
-use Rattle.tb_codegen.specs.Notes.{Entry, Stands, Spot, Reg, Slot, Symbol, Constant, Variable, Own, Note, Inside, AtBlock, AtValue, AtUnspecified, Waiting, Then, symbol_of}
+use Rattle.tb_codegen.specs.Notes.{Entry, Spot, Reg, Own, Note, Inside, AtBlock, AtValue, AtUnspecified, Waiting, symbol_of}
 use Rattle.tb_codegen.specs.Generate.{captured_in}
 use Rattle.tb_codegen.specs.Operations.{operands}
 use Rattle.tb_codegen.proofs.Changes.{Args, no_args, an_arg, From, Into, IsFirst, OpAt, at_bind, at_tail, Under}
@@ -25,8 +24,8 @@ use Rattle.tb_codegen.proofs.Envs.{lookup-gather, lookup-other, lookup-same}
 use Rattle.tb_codegen.proofs.Holding.{first-put, fs-more, holds-from, holds-into, pushed, under}
 use Rattle.tb_codegen.proofs.Landing.{lands_value}
 use Rattle.tb_codegen.proofs.Ok.{HasNote, free}
-use Rattle.tb_codegen.proofs.Rel.{Closed, FsRel, Goes, Grows, HasAny, Holds, JRel, j_then, Means, m_name, Memory, Onto, OwnRel, PtRel, at_block, at_unspecified, IsCut, Rel, WRel, WsRel, ws_none, ws_more, World, config, meaning, r_inside, r_failed, r_lost, step_of}
-use Rattle.tb_codegen.proofs.Sim.{Mem, Sim, Still, machine, source, target}
+use Rattle.tb_codegen.proofs.Rel.{Closed, FsRel, Grows, HasAny, Holds, JRel, j_then, Means, m_name, Memory, Onto, OwnRel, at_block, at_unspecified, IsCut, Rel, WRel, WsRel, ws_none, ws_more, World, config, r_inside, r_failed, r_lost, step_of}
+use Rattle.tb_codegen.proofs.Sim.{Sim, Still, machine, source, target}
 
 -- operands one by one: their registers and words, and their values
 pub data Opers (w : World) (r : Env) (regs : List Word) : List ℕ → List Operand → List Word → List Value → Type 0 where

@@ -1,23 +1,18 @@
 -- The items of an operation follow their notes: its operands are loaded, and its value comes to RESULT.
-use Rattle.std.proofs.Common.{◌≡◌, ℕ, zero, suc, ◌<◌, ◌≤◌, ◌+◌, ◌⊎◌, true, false, cond, List, [], ◌∷◌, ◌++◌, length, Option, Some, None, slice_get, true≢false, Bool, refl, sym, ap, ◌∙◌, subst, inl, inr, ⊎_elim, append-nil, lit<, lit≤, arith}
-use Rattle.tb_prim.specs.declared.place.Place.{Place}
-use Rattle.tb_prim.specs.declared.constant.Const.{Const}
-use Rattle.tb_prim.specs.declared.primitive.Primitive.{Primitive}
-use Rattle.tb_prim.specs.Primitives.{arity_of, number_of}
+use Rattle.std.proofs.Common.{◌≡◌, ℕ, zero, suc, ◌<◌, ◌≤◌, ◌+◌, true, false, cond, List, [], ◌∷◌, ◌++◌, length, Option, Some, None, slice_get, true≢false, Bool, refl, sym, ap, ◌∙◌, subst, inl, inr, ⊎_elim, append-nil, lit<, lit≤, arith}
 use Rattle.tb_semantics.specs.Graph.{IsIn}
 use Rattle.tb_semantics.proofs.ListLemmas.{in-left, in-right, in-cases}
 use Rattle.tb_core.specs.FreeVariables.{without}
-use Rattle.tb_ir.specs.AnfTree.{Operand, Quote, Var, Block, Bind, CloseAll, Tail, Op, Atom, Global, SetGlobal, DefGlobal, PrimUse, NewCell, CellGet, CellSet, Close, Call, Direct, Apply, Branch, ProcTree, AnfTree}
-use Rattle.tb_ir.specs.AnfMachine.{captured_by, free_block, free_op, free_of_atom, free_of_atoms}
-use Rattle.tb_mac.specs.declared.code.Instr.{Instr}
+use Rattle.tb_ir.specs.AnfTree.{Operand, Quote, Var, Block, Bind, Tail, Op, Atom, Global, SetGlobal, DefGlobal, PrimUse, NewCell, CellGet, CellSet, Close, Call, Direct, Apply, Branch, ProcTree, AnfTree}
+use Rattle.tb_ir.specs.AnfMachine.{captured_by, free_op, free_of_atom, free_of_atoms}
 use Rattle.tb_mac.specs.declared.code.Instr.TheVariants as I
-use Rattle.tb_codegen.specs.Notes.{Spot, Reg, Slot, Symbol, Constant, Variable, Itself, Capture, Entry, Stands, Waiting, ToCaller, ToTop, Then, Point, AtBlock, AtValue, AtUnspecified, AtFill, Own, Away, Here, Ready, Note, Inside, AtProc, AtLifted, Noted, Mark, Does, symbol_of}
-use Rattle.tb_codegen.specs.Operations.{Body, result, variables, waiting_map, block_map, value_map, here, constant, load, loads, loaded, operands, first_register, use_of, act, place, is_call, captures, fill_map, fills, unspecified_result, behind, simple, returning, leaving, evaluated}
+use Rattle.tb_codegen.specs.Notes.{Spot, Reg, Slot, Symbol, Constant, Variable, Capture, Entry, Stands, Waiting, ToCaller, Point, AtBlock, AtValue, AtUnspecified, AtFill, Own, Away, Ready, Note, Inside, AtProc, AtLifted, Noted, Mark, Does, symbol_of}
+use Rattle.tb_codegen.specs.Operations.{Body, variables, waiting_map, block_map, value_map, here, constant, loads, loaded, operands, first_register, act, place, is_call, captures, fill_map, fills, unspecified_result, simple, returning, leaving, evaluated}
 use Rattle.tb_codegen.specs.Generate.{captured_in, operands_map}
-use Rattle.tb_codegen.proofs.Changes.{OpAt, at_bind, at_tail, Under, u_const, u_own, u_waits, u_deep, Same, same, IsFirst, is_first, IsThat, is_that, StandsAt, stands_at, From, Into, NoSlots, Args, no_args, an_arg, from_register, Backs, HasFrame, StartsLifted, Opens, o_under, o_capture}
-use Rattle.tb_codegen.proofs.Ok.{IsWritten, Acts, a_quote, a_global, a_use0, a_use1, a_use2, a_use3, a_cell, a_get, Writes, w_set, w_define, w_cell, Entered, Lifts, Calls, from_ready, from_away, Stand, Ok, ok_load, ok_const, ok_setrtn, ok_pop, ok_act, ok_read, ok_write, ok_unspecified, ok_invoke, ok_apply, ok_direct, ok_close, ok_open, ok_fill, ok_filled, free}
-use Rattle.tb_codegen.proofs.Chains.{Target, target, Chain, c_end, c_does, c_mark, c_dead, chain-on}
-use Rattle.tb_codegen.proofs.Maps.{Below, Home, Named, NoRegisters, Waits, above, args-loaded, below-more, block-slots, down, down-more, entry-spot, entry-symbol, in-loaded, in-variables, in-waiting, none-below, put-into, reg-same, reg-slot, variables-in, waiting-in, waiting-slots}
+use Rattle.tb_codegen.proofs.Changes.{OpAt, at_bind, at_tail, Under, u_waits, u_deep, Same, same, IsFirst, is_first, IsThat, is_that, StandsAt, stands_at, From, Into, no_args, Backs, HasFrame, StartsLifted, Opens, o_under, o_capture}
+use Rattle.tb_codegen.proofs.Ok.{IsWritten, a_quote, a_global, a_use0, a_use1, a_use2, a_use3, a_cell, a_get, w_set, w_define, w_cell, Entered, Lifts, Calls, from_ready, from_away, Ok, ok_load, ok_const, ok_setrtn, ok_pop, ok_act, ok_read, ok_write, ok_unspecified, ok_invoke, ok_apply, ok_direct, ok_close, ok_open, ok_fill, ok_filled, free}
+use Rattle.tb_codegen.proofs.Chains.{Target, target, Chain, c_end, c_does, c_dead, chain-on}
+use Rattle.tb_codegen.proofs.Maps.{Below, above, args-loaded, below-more, block-slots, down, down-more, entry-spot, entry-symbol, in-loaded, in-variables, in-waiting, none-below, put-into, reg-same, reg-slot, variables-in, waiting-in, waiting-slots}
 
 none-some : {y : ℕ} → None ≡ Some y → ⊥
 none-some e = cc

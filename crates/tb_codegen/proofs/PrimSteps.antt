@@ -1,7 +1,7 @@
 -- Uses of primitives: their effects are carried out on both sides.
-use Rattle.std.proofs.Common.{◌≡◌, refl, sym, ◌∙◌, subst, subst₂, ap, ℕ, zero, suc, ◌+◌, ◌-◌, ◌<◌, ◌≤◌, ◌⊎◌, ◌==◌, ◌/◌, ◌%◌, ◌^◌, Bool, cond, true, false, inl, inr, ⊎_elim, arith, List, [], ◌∷◌, ◌++◌, length, Option, Some, None, slice_get, slice_set, length-set}
-use Rattle.std.specs.Prelude.{drop, pos, replicate}
-use Rattle.std.proofs.lemmas.Bool.{cases_eq, cases_lt}
+use Rattle.std.proofs.Common.{◌≡◌, refl, sym, ◌∙◌, subst, subst₂, ap, ℕ, zero, suc, ◌+◌, ◌<◌, ◌≤◌, ◌/◌, ◌%◌, ◌^◌, Bool, cond, true, false, inr, ⊎_elim, arith, List, [], ◌∷◌, ◌++◌, length, Option, Some, None, slice_get, slice_set, length-set}
+use Rattle.std.specs.Prelude.{pos, replicate}
+use Rattle.std.proofs.lemmas.Bool.{cases_eq}
 use Rattle.std.proofs.lemmas.List.{length-append}
 use Rattle.tb_prim.specs.declared.event.Cause.{Cause}
 use Rattle.tb_prim.specs.declared.event.Event.{Event}
@@ -11,27 +11,25 @@ use Rattle.tb_prim.specs.declared.place.Place.{Place}
 use Rattle.tb_prim.specs.declared.primitive.Primitive.{Primitive}
 use Rattle.tb_prim.specs.declared.primitive.Primitive.TheVariants as P
 use Rattle.tb_prim.specs.Primitives.{can_fail, number_of, primitive_at}
-use Rattle.tb_semantics.specs.Graph.{IsIn}
 use Rattle.tb_semantics.proofs.ListLemmas.{get-left, get-some, in-left, in-right, set-other}
-use Rattle.tb_core.specs.Store.{Value, At, Truth, Nil, Unspecified, Undefined, EndObject, Object, Pair, Vec, Str, Sym}
+use Rattle.tb_core.specs.Store.{Value, Unspecified, Undefined, EndObject, Object, Pair, Vec, Str}
 use Rattle.tb_core.specs.Effects as E
 use Rattle.tb_ir.specs.AnfTree.{Operand, Block, Op, PrimUse, AnfTree}
-use Rattle.tb_ir.specs.AnfMachine.{AnfConfig, AnfFrames, AnfState, Code, InBlock, InOp, atom_value, atom_values, free_of_atom, free_op}
-use Rattle.tb_ir.specs.Machine.{Control, Env, Eval, Item, Cell, Obj, Clo, Running, Lost, Stopped, Val, contents, gather, perform}
+use Rattle.tb_ir.specs.AnfMachine.{AnfFrames, Code, InBlock, InOp, atom_value, free_of_atom, free_op}
+use Rattle.tb_ir.specs.Machine.{Control, Env, Eval, Item, Obj, Running, Val, contents, gather, perform}
 use Rattle.tb_ir.specs.Space.{closures_in, words_in}
-use Rattle.tb_mac.specs.declared.code.Instr.{Instr}
 use Rattle.tb_mac.specs.declared.code.Instr.TheVariants as I
 use Rattle.tb_mac.specs.declared.word.Word.{Word}
 use Rattle.tb_mac.specs.declared.word.Word.TheVariants as W
 use Rattle.tb_mac.specs.Assembled.{Assembled}
 use Rattle.tb_mac.specs.Effects as M
-use Rattle.tb_mac.specs.Frames.{Frame as MacFrame, framed_perform, carries_out}
+use Rattle.tb_mac.specs.Frames.{Frame as MacFrame, carries_out}
 use Rattle.tb_mac.specs.FramedRuns.{framed_after}
 use Rattle.tb_mac.specs.LiveWords.{closure_count, data_size, object_size as words_from}
 use Rattle.tb_mac.specs.MacStep.{kept_ahead, next_taken, place_of, rest_after, taken_word}
 use Rattle.tb_mac.specs.Words.{unspecified}
 use Rattle.tb_mac.specs.Objects.{new_string, new_vector, pair_tag, pair_words, padding, raw_size, string_kind, string_tag, vector_kind, vector_tag}
-use Rattle.tb_codegen.specs.Notes.{Entry, Stands, Spot, Reg, Slot, Symbol, Own, Note, Inside, AtBlock, AtValue, Waiting, symbol_of}
+use Rattle.tb_codegen.specs.Notes.{Entry, Reg, Own, Note, Inside, AtBlock, AtValue, Waiting, symbol_of}
 use Rattle.tb_codegen.specs.Generate.{captured_in}
 use Rattle.tb_codegen.specs.Operations.{place}
 use Rattle.tb_codegen.proofs.Moves.{done}
@@ -42,12 +40,12 @@ use Rattle.tb_codegen.proofs.Changes.{Args, no_args, an_arg, Into, IsFirst, OpAt
 use Rattle.tb_codegen.proofs.Closures.{get-replicate}
 use Rattle.tb_codegen.proofs.Envs.{get-set, get-set-other, get-within}
 use Rattle.tb_codegen.proofs.Holding.{w-more}
-use Rattle.tb_codegen.proofs.Memories.{IsPlain, p_get, p_set, plain_raw, plain_word}
+use Rattle.tb_codegen.proofs.Memories.{p_get, p_set, plain_raw, plain_word}
 use Rattle.tb_codegen.proofs.Ok.{HasNote, free}
 use Rattle.tb_codegen.proofs.Operands.{at_op, atom_there, fails_op, lands_op, lost_op, value-gather}
 use Rattle.tb_codegen.proofs.Primitives.{Unique, effect_none, effect_one, effect_two, effect_three, ERel, e_gives, e_makes, e_changes, e_puts, e_takes, e_peeks, e_fails, e_none, News, n_pair, n_vector, n_string, Sets, s_car, s_cdr, s_vector, s_string}
 use Rattle.tb_codegen.proofs.Rel.{BytesAt, Closed, FsRel, Grows, Holds, InRel, i_none, i_byte, i_end, JRel, Lk, Memory, ORel, o_pair, o_vector, o_string, OwnRel, IsCut, PRel, p_none, p_full, Stores, Whole, World, WRel, w_char, w_end, w_fix, w_unspecified, config, step_of, tag_of}
-use Rattle.tb_codegen.proofs.Sim.{Sim, Still, machine, source, target}
+use Rattle.tb_codegen.proofs.Sim.{Sim, Still, machine, source}
 
 -- words that are all the fixnum 0
 fixes_at : (z : World) (heap : List Word) (n a : ℕ) → ((k : ℕ) → k < n → slice_get heap (a + k) ≡ Some (W.Fix (pos 0))) → PRel z heap a n (replicate n (Value.Fix (pos 0)))

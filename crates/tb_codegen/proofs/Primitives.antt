@@ -1,26 +1,25 @@
 -- What a primitive does with words is what it does with values.
-use Rattle.std.proofs.Common.{◌≡◌, refl, sym, ◌∙◌, subst, subst₂, ap, ℕ, zero, suc, ◌+◌, ◌-◌, ◌<◌, ◌≤◌, ◌⊎◌, ◌==◌, ◌/◌, ◌%◌, ◌^◌, ◌&&◌, Bool, cond, true, false, not, inl, inr, ⊎_elim, arith, List, [], ◌∷◌, ◌++◌, length, Option, Some, None, slice_get, slice_set, lt-ltb, le-ltb, eq-eqb, ne_eqb}
-use Rattle.std.specs.Prelude.{ℤ, pos, negsuc, nat_lt, ◌+ℤ◌, ◌-ℤ◌, ◌*ℤ◌, int_lt, int_le, int_div, int_rem, replicate, is_some, slice_index}
+use Rattle.std.proofs.Common.{◌≡◌, refl, sym, subst, ℕ, zero, suc, ◌+◌, ◌<◌, ◌==◌, ◌/◌, ◌%◌, ◌^◌, ◌&&◌, Bool, cond, true, false, ⊎_elim, arith, List, [], ◌∷◌, length, Some, slice_get, slice_set, lt-ltb, le-ltb, eq-eqb, ne_eqb}
+use Rattle.std.specs.Prelude.{ℤ, pos, negsuc, ◌+ℤ◌, ◌-ℤ◌, ◌*ℤ◌, int_lt, int_le, int_div, int_rem, replicate, is_some, slice_index}
 use Rattle.std.proofs.lemmas.Bool.{cases_lt, cases_eq}
 use Rattle.tb_prim.specs.declared.event.Cause.{Cause}
 use Rattle.tb_prim.specs.declared.primitive.Primitive.{Primitive}
 use Rattle.tb_prim.specs.declared.primitive.Primitive.TheVariants as P
 use Rattle.tb_prim.specs.Fixnums.{is_fixnum}
 use Rattle.tb_semantics.specs.Graph.{IsIn}
-use Rattle.tb_core.specs.Store.{Value, At, Truth, Nil, Unspecified, Undefined, EndObject, Object, Pair, Vec, Str, Sym, Content, Holds, Procedure, Other}
+use Rattle.tb_core.specs.Store.{Value, Undefined, Object, Pair, Vec, Str}
 use Rattle.tb_core.specs.Effects as E
-use Rattle.tb_ir.specs.Machine.{Item, Cell, Obj, Clo, contents}
+use Rattle.tb_ir.specs.Machine.{Item, Obj, contents}
 use Rattle.tb_mac.specs.declared.word.Word.{Word}
 use Rattle.tb_mac.specs.declared.word.Word.TheVariants as W
 use Rattle.tb_mac.specs.declared.word.Placed.{Placed}
 use Rattle.tb_mac.specs.Effects as M
-use Rattle.tb_mac.specs.Words.{same_int, false_word, true_word, same_word, unspecified}
+use Rattle.tb_mac.specs.Words.{same_int, same_word}
 use Rattle.tb_mac.specs.Objects.{new_string, new_vector, pair_tag, pair_words, procedure_kind, procedure_tag, string_kind, string_tag, symbol_kind, vector_kind, vector_tag}
 use Rattle.tb_semantics.proofs.ListLemmas.{get-some}
-use Rattle.tb_codegen.proofs.Envs.{get-within}
 use Rattle.tb_codegen.proofs.Simple.{same_test}
 use Rattle.tb_codegen.proofs.Memories.{p_get}
-use Rattle.tb_codegen.proofs.Rel.{BytesAt, Lk, PRel, World, WRel, w_fix, w_char, w_false, w_true, w_nil, w_unspecified, w_undefined, w_end, w_at, tag_of}
+use Rattle.tb_codegen.proofs.Rel.{BytesAt, Lk, PRel, World, WRel, w_fix, w_char, w_false, w_true, w_nil, w_unspecified, w_undefined, w_end, w_at}
 use Rattle.tb_codegen.proofs.Views.{View, x_data, x_pair, x_vector, x_string, x_symbol, x_cell, x_procedure, data_object, data_test}
 
 -- words of a new object

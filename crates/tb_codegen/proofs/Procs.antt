@@ -1,11 +1,11 @@
 -- The procs of a program by their numbers: those of forms stand first, and then those of lambdas.
 use Rattle.std.proofs.lemmas.Bool.{cases_eq}
-use Rattle.std.proofs.Common.{◌==◌, ◌≡◌, true≢false, ℕ, zero, suc, ◌<◌, ◌≤◌, ◌+◌, ◌⊎◌, Bool, true, false, cond, not, filter, List, [], ◌∷◌, ◌++◌, length, Option, Some, None, slice_get, refl, sym, ap, ◌∙◌, subst, inl, inr, ⊎_elim, append_assoc, zero-add, eq-eqb, eqb-true, arith}
+use Rattle.std.proofs.Common.{◌==◌, ◌≡◌, true≢false, ℕ, suc, ◌<◌, ◌≤◌, ◌+◌, Bool, true, false, cond, not, filter, List, [], ◌∷◌, ◌++◌, length, Option, Some, None, slice_get, refl, sym, ap, ◌∙◌, subst, inl, inr, ⊎_elim, append_assoc, zero-add, eq-eqb, eqb-true, arith}
 use Rattle.tb_semantics.specs.Graph.{IsApart, IsIn}
-use Rattle.tb_semantics.proofs.ListLemmas.{in-left, in-right, in-cases, length-last}
+use Rattle.tb_semantics.proofs.ListLemmas.{in-left, in-right}
 use Rattle.tb_ir.specs.AnfTree.{Block, ProcTree, AnfTree}
 use Rattle.tb_ir.specs.AnfMachine.{InBlock, form_of, is_number, proc_of}
-use Rattle.tb_ir.specs.AnfRules.{KeepsRules, Numbered, all_blocks, blocks, blocks_of, forms_of, is_form, lambdas_of, lifted_lambda, of_each, standing, standing_at}
+use Rattle.tb_ir.specs.AnfRules.{KeepsRules, Numbered, all_blocks, blocks, blocks_of, forms_of, is_form, lambdas_of, lifted_lambda, of_each, standing_at}
 use Rattle.tb_codegen.proofs.Namings.{in-each, proc-found}
 
 none-some : {X : Type 0} {x : X} → None ≡ Some x → ⊥

@@ -1,5 +1,5 @@
 -- A program that keeps its rules, and fits, has code that follows its notes.
-use Rattle.std.proofs.Common.{◌≡◌, true≢false, ℤ, pos, negsuc, ℕ, zero, suc, ◌<◌, ◌≤◌, ◌+◌, ◌^◌, nat_lt, ◌⊎◌, Bool, true, false, cond, List, [], ◌∷◌, ◌++◌, length, Option, Some, None, slice_get, refl, sym, ap, ◌∙◌, subst, inl, inr, ⊎_elim, append_assoc, append-nil, arith}
+use Rattle.std.proofs.Common.{◌≡◌, true≢false, ℤ, pos, negsuc, ℕ, suc, ◌<◌, ◌≤◌, ◌+◌, ◌⊎◌, Bool, true, false, cond, List, [], ◌∷◌, ◌++◌, length, Option, Some, None, slice_get, refl, sym, ap, ◌∙◌, subst, inl, inr, ⊎_elim, append_assoc, append-nil, arith}
 use Rattle.std.proofs.lemmas.Bool.{ltb-true}
 use Rattle.tb_prim.specs.declared.constant.Const.{Const}
 use Rattle.tb_prim.specs.declared.constant.Static.{Static}
@@ -8,25 +8,24 @@ use Rattle.tb_prim.specs.declared.primitive.Primitive.TheVariants.{Cons}
 use Rattle.tb_prim.specs.Primitives.{arity_of}
 use Rattle.tb_semantics.specs.Graph.{IsApart, IsIn}
 use Rattle.tb_semantics.proofs.ListLemmas.{in-left, in-right, in-cases, length-last}
-use Rattle.tb_core.specs.FreeVariables.{is_in, without}
+use Rattle.tb_core.specs.FreeVariables.{is_in}
 use Rattle.tb_core.specs.Rules.{Every, ConstKeeps}
 use Rattle.tb_core.proofs.Members.{in-tested, in-without, tested-in, without-sub}
 use Rattle.tb_ir.specs.AnfTree.{Operand, Quote, Var, Block, Bind, CloseAll, Tail, Op, Atom, Global, SetGlobal, DefGlobal, PrimUse, NewCell, CellGet, CellSet, Close, Call, Direct, Apply, Branch, ProcTree, AnfTree}
 use Rattle.tb_ir.specs.AnfMachine.{InBlock, form_of, proc_of}
-use Rattle.tb_ir.specs.AnfRules.{AtomKeeps, BlockKeeps, IsInRange, IsShaped, KeepsRules, Numbered, PassesAll, PassesCells, ProcKeeps, SameLong, all_blocks, atoms, binders, blocks, blocks_of, closed_by, forms_of, is_form, lambdas_of, names_outside, of_each, operation, operations, standing_at}
-use Rattle.tb_ir.specs.Rules.{times}
+use Rattle.tb_ir.specs.AnfRules.{AtomKeeps, BlockKeeps, IsInRange, IsShaped, KeepsRules, Numbered, PassesAll, PassesCells, ProcKeeps, all_blocks, atoms, binders, blocks, closed_by, forms_of, is_form, lambdas_of, names_outside, of_each, operation, operations, standing_at}
 use Rattle.tb_codegen.specs.Fits.{Fits, IsByte, passed_by}
-use Rattle.tb_codegen.specs.Generate.{body_of, captured_in, code_forms, code_lambda, code_lambdas, entry, labels_in, labels_within, noted_items, operands_map, settled}
-use Rattle.tb_codegen.specs.Homes.{frame_size, index_of, origin, own_variables, slot_of}
-use Rattle.tb_codegen.specs.Notes.{AtLifted, AtProc, Noted, Mark, Does}
-use Rattle.tb_codegen.proofs.Changes.{Caught, StartsLifted}
-use Rattle.tb_codegen.proofs.Ok.{Entered, IsWritten, Lifts, free}
+use Rattle.tb_codegen.specs.Generate.{code_forms, code_lambda, code_lambdas, labels_in, labels_within, noted_items, operands_map, settled}
+use Rattle.tb_codegen.specs.Homes.{frame_size, origin, own_variables, slot_of}
+use Rattle.tb_codegen.specs.Notes.{AtLifted, AtProc, Noted, Mark}
+use Rattle.tb_codegen.proofs.Changes.{Caught}
+use Rattle.tb_codegen.proofs.Ok.{IsWritten, free}
 use Rattle.tb_codegen.proofs.OperationChains.{IsEntered, IsLifted, OpOk, QuoteOk, QuotesOk}
-use Rattle.tb_codegen.proofs.BlockChains.{AllEntered, BlockOk, kept-apart, settles, without-nothing}
+use Rattle.tb_codegen.proofs.BlockChains.{AllEntered, BlockOk, kept-apart, settles}
 use Rattle.tb_codegen.proofs.CodeChains.{is_branch}
-use Rattle.tb_codegen.proofs.EntryChains.{Entering, Names, apart-left, apart-right, operands-in}
+use Rattle.tb_codegen.proofs.EntryChains.{Entering, apart-left, apart-right, operands-in}
 use Rattle.tb_codegen.proofs.Homing.{index-below, index-same, origin-absent}
-use Rattle.tb_codegen.proofs.Namings.{IsProc, every-at, in-each, is-proc, named_within, proc-found}
+use Rattle.tb_codegen.proofs.Namings.{IsProc, every-at, in-each, is-proc, proc-found}
 use Rattle.tb_codegen.proofs.Procs.{apart-both, form-at, form-in, forms-end, in-blocks-of, lambda-at, lambda-found, lambda-in, lambda-kept, kept-in, passes, standing-kept}
 use Rattle.tb_codegen.proofs.Scoping.{Scope, block-ok}
 use Rattle.tb_codegen.proofs.WholeChains.{FormOk, FormsOk, LambdaOk, LambdasOk, ProgramOk}

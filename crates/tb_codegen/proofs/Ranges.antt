@@ -1,7 +1,6 @@
 -- The fields of the instructions of generated code are in their ranges, its live maps keep their rules, and exactly
 -- the instructions that can fail have a place.
-use Rattle.std.proofs.Common.{◌≡◌, true≢false, ℕ, zero, suc, ◌<◌, ◌≤◌, ◌+◌, ◌-◌, ◌^◌, ◌⊎◌, Bool, true, false, cond, List, [], ◌∷◌, ◌++◌, length, map, take, Option, Some, None, is_some, IsSome, option_map, slice_get, refl, sym, ap, ◌∙◌, subst, inl, inr, ⊎_elim, lit<, lit≤, arith}
-use Rattle.std.proofs.lemmas.List.{length-take}
+use Rattle.std.proofs.Common.{◌≡◌, true≢false, ℕ, zero, suc, ◌<◌, ◌≤◌, ◌+◌, ◌^◌, Bool, true, false, cond, List, [], ◌∷◌, ◌++◌, length, Option, Some, None, is_some, IsSome, option_map, slice_get, refl, sym, ap, ◌∙◌, subst, inl, inr, lit<, lit≤, arith}
 use Rattle.tb_prim.specs.declared.place.Place.{Place}
 use Rattle.tb_prim.specs.declared.constant.Const.{Const}
 use Rattle.tb_prim.specs.declared.constant.Static.{Static}
@@ -9,22 +8,19 @@ use Rattle.tb_prim.specs.declared.primitive.Primitive.{Primitive}
 use Rattle.tb_prim.specs.declared.primitive.Primitive.TheVariants.{Cons}
 use Rattle.tb_prim.specs.Primitives.{arity_of, can_fail, number_of, primitive_at}
 use Rattle.tb_semantics.specs.Graph.{IsIn}
-use Rattle.tb_core.specs.FreeVariables.{is_in}
 use Rattle.tb_ir.specs.AnfTree.{Operand, Quote, Var, Block, Bind, CloseAll, Tail, Op, Atom, Global, SetGlobal, DefGlobal, PrimUse, NewCell, CellGet, CellSet, Close, Call, Direct, Apply, Branch, ProcTree, AnfTree}
-use Rattle.tb_ir.specs.AnfMachine.{own_formals}
-use Rattle.tb_ir.specs.AnfRules.{atoms, forms_of, lambdas_of}
+use Rattle.tb_ir.specs.AnfRules.{lambdas_of}
 use Rattle.tb_mac.specs.declared.code.Instr.{Instr}
 use Rattle.tb_mac.specs.declared.code.Instr.TheVariants as I
 use Rattle.tb_mac.specs.Assemble.{with_target}
 use Rattle.tb_mac.specs.Bounds.{extent}
 use Rattle.tb_mac.specs.Layout.{const_word, static_tag}
-use Rattle.tb_mac.specs.Rules.{InstrOk, IsRegister, MapOk, instr_can_fail, tag_at}
+use Rattle.tb_mac.specs.Rules.{InstrOk, MapOk, instr_can_fail}
 use Rattle.tb_mac.specs.Words.{imm_bits, imm_word, on_some, unspecified}
 use Rattle.tb_mac.proofs.Immediates.{imm_word-imm_bits}
-use Rattle.tb_codegen.specs.Homes.{frame_size, slot_of}
-use Rattle.tb_codegen.specs.Notes.{Entry, Waiting, ToCaller, ToTop, Then, Point, AtBlock, AtValue, AtAll, Own, Away, Here, Ready, Note, Inside, AtProc, AtArgs, AtLifted, Noted, Mark, Does, note_map, own_slots, register_bits, slot_bits, any, is_register}
+use Rattle.tb_codegen.specs.Notes.{Entry, Waiting, ToCaller, ToTop, Then, Point, AtBlock, AtAll, Away, Here, Ready, Note, Inside, AtProc, AtArgs, AtLifted, Noted, Mark, Does, note_map, register_bits, slot_bits, any, is_register}
 use Rattle.tb_codegen.specs.Operations.{Body, act, behind, block_map, constant, evaluated, fills, first_register, here, is_call, leaving, load, loads, loaded, operands, place, returning, simple, unspecified_result, use_of}
-use Rattle.tb_codegen.specs.Generate.{all_words, block_note, body_of, captured_in, code_block, code_bound, code_form, code_forms, code_lambda, code_lambdas, code_last, counting, counts, entry, frame_made, given, group, group_map, keep, labels_in, labels_of, last, makes, making_note, noted_items, operands_map, passed, passing, stores_captured, stores_operands, words, writes, zeros}
+use Rattle.tb_codegen.specs.Generate.{all_words, block_note, captured_in, code_block, code_bound, code_last, counts, given, group, group_map, keep, labels_in, labels_of, last, makes, making_note, passed, passing, words, writes, zeros}
 use Rattle.tb_codegen.specs.PlainCode.{entries, parts_of}
 use Rattle.tb_codegen.proofs.Ok.{IsWritten}
 use Rattle.tb_codegen.proofs.OperationChains.{body}
@@ -73,7 +69,7 @@ end-or-more : (ls : List ℕ) (j : ℕ) → j < length ls → 1 ≤ length ls
 end-or-more ls j h = omega (arith, h)
 
 -- a note at which the frame is not larger than frames can be
-abbrev SmallNote : Note → Type 0
+abbrev pub SmallNote : Note → Type 0
 SmallNote (Inside pt Away es) = Unit {0}
 SmallNote (Inside pt (Here size) es) = size ≤ 1000
 SmallNote (Inside pt (Ready size l) es) = size ≤ 1000
@@ -81,7 +77,7 @@ SmallNote (AtProc m) = Unit {0}
 SmallNote (AtArgs m) = Unit {0}
 SmallNote (AtLifted m es) = Unit {0}
 
-small-map : (n : Note) → SmallNote n → MapOk (note_map n)
+pub small-map : (n : Note) → SmallNote n → MapOk (note_map n)
 small-map (Inside pt Away es) h = record { registers = bits-small es; slots = tt }
 small-map (Inside pt (Here size) es) h = record { registers = bits-small es; slots = subst (λ n. n ≤ 1000) (sym (slots-length es 0 size)) h }
 small-map (Inside pt (Ready size l) es) h = record { registers = bits-small es; slots = subst (λ n. n ≤ 1000) (sym (slots-length es 0 size)) h }

@@ -1,33 +1,29 @@
 -- How a state of the MAC machine and one of the A-normal form's are related through the note at the instruction.
-use Rattle.std.proofs.Common.{◌≡◌, ℕ, zero, suc, ◌<◌, ◌≤◌, ◌+◌, ◌-◌, ◌*◌, ◌/◌, ◌%◌, ◌^◌, ◌⊎◌, ◌==◌, Bool, cond, true, false, List, [], ◌∷◌, ◌++◌, length, Option, Some, None, slice_get}
+use Rattle.std.proofs.Common.{◌≡◌, ℕ, zero, suc, ◌<◌, ◌≤◌, ◌+◌, ◌-◌, ◌/◌, ◌%◌, ◌^◌, ◌⊎◌, ◌==◌, Bool, cond, true, false, List, [], ◌∷◌, ◌++◌, length, Option, Some, None, slice_get}
 use Rattle.std.specs.Prelude.{ℤ, pos, nat_le, IsTrue}
-use Rattle.tb_prim.specs.declared.constant.Const.{Const}
 use Rattle.tb_prim.specs.declared.constant.Static.{Static}
 use Rattle.tb_prim.specs.declared.event.Event.{Event}
 use Rattle.tb_prim.specs.declared.event.Stop.{Stop}
 use Rattle.tb_prim.specs.declared.event.Taken.{Taken}
 use Rattle.tb_semantics.specs.Graph.{IsIn, Reaches}
 use Rattle.tb_core.specs.Space.{values_locations}
-use Rattle.tb_core.specs.Store.{Value, At, value_of, Object, Pair, Vec, Str, Sym, object_size}
+use Rattle.tb_core.specs.Store.{Value, At, value_of, Pair, Vec, Str, Sym}
 use Rattle.tb_core.specs.Store.{Nil, Unspecified, Undefined, EndObject, Truth}
-use Rattle.tb_core.specs.FreeVariables.{without}
-use Rattle.tb_ir.specs.AnfTree.{Block, Bind, Tail, CloseAll, Op, ProcTree, AnfTree}
-use Rattle.tb_ir.specs.AnfMachine.{AnfConfig, AnfFrames, AnfState, AnfWork, Binding, Code, InBlock, InOp, evaluate, free_code, free_op, language, proc_of}
-use Rattle.tb_ir.specs.Machine.{Callee, Closure, Lifted, Config, Control, Entering, Env, Empty, Eval, Bound, Frame, Item, Cell, Obj, Clo, Own as OwnWork, Running, Lost, State, Stopped, Top, Val, bind_all, emit, events_of, gather, go, lookup, mark_top, step}
+use Rattle.tb_ir.specs.AnfTree.{Block, ProcTree, AnfTree}
+use Rattle.tb_ir.specs.AnfMachine.{AnfConfig, AnfFrames, AnfState, AnfWork, Binding, Code, InBlock, language}
+use Rattle.tb_ir.specs.Machine.{Callee, Closure, Lifted, Control, Entering, Env, Empty, Eval, Bound, Frame, Item, Cell, Obj, Clo, Own as OwnWork, Running, Lost, Stopped, Top, Val, bind_all, emit, gather, lookup, mark_top, step}
 use Rattle.tb_ir.specs.Space.{control_locations, frames_locations, made, marks, store_graph}
 use Rattle.tb_mac.specs.declared.word.Word.{Word}
 use Rattle.tb_mac.specs.declared.word.Word.TheVariants as W
-use Rattle.tb_mac.specs.Assembled.{Assembled}
 use Rattle.tb_mac.specs.Layout.{addresses_from, static_tag}
-use Rattle.tb_mac.specs.Words.{on_some}
 use Rattle.tb_mac.specs.Frames.{Frame as MacFrame, Framed}
 use Rattle.tb_mac.specs.FramedRuns.{FramedState, Runs, Stays, is_full_stop}
 use Rattle.tb_mac.specs.LiveWords.{closure_count, data_size, object_size as words_from}
 use Rattle.tb_mac.specs.Objects.{cell_kind, pair_tag, procedure_kind, procedure_tag, string_kind, string_tag, symbol_kind, vector_kind, vector_tag}
 use Rattle.tb_codegen.specs.Notes.{Spot, Reg, Slot, Symbol, Constant, Variable, Itself, Capture, Entry, Stands, Waiting, ToCaller, ToTop, Then, Point, AtBlock, AtValue, AtUnspecified, AtFill, AtAll, Own, Away, Here, Ready, Note, Inside, AtProc, AtArgs, AtLifted}
-use Rattle.tb_codegen.specs.Generate.{captured_in, settled}
+use Rattle.tb_codegen.specs.Generate.{captured_in}
 use Rattle.tb_codegen.proofs.Changes.{StartsLifted}
-use Rattle.tb_codegen.proofs.Ok.{Entered, HasNote, Lifts, free}
+use Rattle.tb_codegen.proofs.Ok.{HasNote, Lifts, free}
 
 -- an address stands for a location; the tag of its pointers
 pub data Link : Type 0 where

@@ -1,27 +1,22 @@
 -- The entry of a procedure with a rest parameter.
-use Rattle.std.proofs.Common.{◌≡◌, refl, sym, ◌∙◌, subst, subst₂, ap, ℕ, zero, suc, ◌+◌, ◌-◌, ◌<◌, ◌≤◌, ◌⊎◌, ◌==◌, ◌%◌, Bool, cond, true, false, inl, inr, ⊎_elim, arith, List, [], ◌∷◌, ◌++◌, length, map, Option, Some, None, slice_get, slice_set, length-set, lt-ltb, le-ltb}
-use Rattle.std.specs.Prelude.{pos, take, drop}
+use Rattle.std.proofs.Common.{◌≡◌, refl, sym, ◌∙◌, subst, subst₂, ap, ℕ, zero, suc, ◌+◌, ◌-◌, ◌<◌, ◌≤◌, true, inl, inr, ⊎_elim, arith, List, [], ◌∷◌, ◌++◌, length, map, Some, slice_get, slice_set, length-set, lt-ltb, le-ltb}
+use Rattle.std.specs.Prelude.{take, drop}
 use Rattle.std.proofs.lemmas.Bool.{cases_lt, le-leb, lt-leb}
 use Rattle.std.proofs.lemmas.List.{length-append}
-use Rattle.tb_prim.specs.declared.event.Cause.{Cause}
-use Rattle.tb_prim.specs.declared.event.Event.{Event}
-use Rattle.tb_prim.specs.declared.place.Place.{Place}
-use Rattle.tb_semantics.specs.Graph.{IsApart, IsIn}
+use Rattle.tb_semantics.specs.Graph.{IsApart}
 use Rattle.tb_semantics.specs.Runs.{run}
 use Rattle.tb_semantics.proofs.ListLemmas.{get-left, in-right}
-use Rattle.tb_core.specs.Store.{Value, At}
+use Rattle.tb_core.specs.Store.{Value}
 use Rattle.tb_core.specs.Lists.{list_objects, list_value}
 use Rattle.tb_ir.specs.AnfTree.{AnfTree, ProcTree}
-use Rattle.tb_ir.specs.AnfMachine.{AnfConfig, AnfFrames, AnfState, AnfWork, Code, InBlock, captured_by, proc_of}
-use Rattle.tb_ir.specs.Machine.{Closure, Control, Entering, Env, Empty, Eval, Frame, Item, Clo, Obj, Running, bind_all, gather}
-use Rattle.tb_mac.specs.declared.code.Instr.{Instr}
+use Rattle.tb_ir.specs.AnfMachine.{AnfFrames, AnfWork, InBlock, captured_by}
+use Rattle.tb_ir.specs.Machine.{Closure, Entering, Empty, Eval, Frame, Obj, bind_all, gather}
 use Rattle.tb_mac.specs.declared.code.Instr.TheVariants as I
 use Rattle.tb_mac.specs.declared.word.Word.{Word}
-use Rattle.tb_mac.specs.declared.word.Word.TheVariants as W
 use Rattle.tb_mac.specs.Assembled.{Assembled}
-use Rattle.tb_mac.specs.Frames.{Frame as MacFrame, framed_perform}
+use Rattle.tb_mac.specs.Frames.{Frame as MacFrame}
 use Rattle.tb_mac.specs.MacStep.{list_at, list_words, place_of}
-use Rattle.tb_codegen.specs.Notes.{Entry, Own, Away, Note, Inside, AtBlock, AtArgs, ToCaller}
+use Rattle.tb_codegen.specs.Notes.{Entry, Away, Note, Inside, AtBlock, AtArgs, ToCaller}
 use Rattle.tb_codegen.specs.Generate.{captured_in, settled}
 use Rattle.tb_codegen.proofs.Changes.{Caught, Starts}
 use Rattle.tb_codegen.proofs.Entries.{starts_hold}
@@ -31,8 +26,8 @@ use Rattle.tb_codegen.proofs.Landing.{lands_block}
 use Rattle.tb_codegen.proofs.Lists.{links, list_word, mem_list}
 use Rattle.tb_codegen.proofs.Moves.{done}
 use Rattle.tb_codegen.proofs.Ok.{Entered, HasNote, Settles, free}
-use Rattle.tb_codegen.proofs.Rel.{AtCall, Closed, FsRel, Grows, Ins, in_none, in_more, j_caller, Link, Memory, o_away, Rel, r_args, r_full, r_stopped, WRel, w_at, WsRel, ws_none, ws_more, World, config, step_of}
-use Rattle.tb_codegen.proofs.Sim.{Sim, Still, machine, source, target}
+use Rattle.tb_codegen.proofs.Rel.{AtCall, Closed, FsRel, Grows, Ins, in_none, in_more, j_caller, Memory, o_away, r_args, r_full, r_stopped, WRel, w_at, WsRel, ws_none, ws_more, World, step_of}
+use Rattle.tb_codegen.proofs.Sim.{Sim, Still, source}
 
 -- the last of some elements
 record Last (xs : List ℕ) (n : ℕ) : Type 0 where

@@ -1,24 +1,23 @@
 -- The blocks of a proc have slots of their own for what is named together.
-use Rattle.std.proofs.Common.{◌≡◌, true≢false, ℕ, zero, suc, ◌<◌, ◌≤◌, ◌+◌, ◌==◌, ◌⊎◌, Bool, true, false, cond, List, [], ◌∷◌, ◌++◌, length, Option, Some, None, refl, sym, ap, ◌∙◌, subst, inl, inr, ⊎_elim, append_assoc, append-nil, arith}
+use Rattle.std.proofs.Common.{◌≡◌, true≢false, ℕ, ◌≤◌, ◌+◌, ◌⊎◌, Bool, true, false, List, [], ◌∷◌, ◌++◌, length, refl, sym, ap, ◌∙◌, subst, inl, inr, ⊎_elim, append_assoc, arith}
 use Rattle.std.proofs.lemmas.Bool.{cases_eq}
 use Rattle.tb_semantics.specs.Graph.{IsApart, IsIn}
 use Rattle.tb_semantics.proofs.ListLemmas.{in-left, in-right, in-cases}
 use Rattle.tb_core.specs.FreeVariables.{is_in, of_lambdas, without}
-use Rattle.tb_core.specs.Rules.{Every}
-use Rattle.tb_core.proofs.Members.{in-tested, in-without, tested-in, without-sub}
+use Rattle.tb_core.proofs.Members.{in-tested, in-without, without-sub}
 use Rattle.tb_ir.specs.AnfTree.{Operand, Quote, Var, Block, Bind, CloseAll, Tail, Op, Atom, Global, SetGlobal, DefGlobal, PrimUse, NewCell, CellGet, CellSet, Close, Call, Direct, Apply, Branch, ProcTree, AnfTree}
-use Rattle.tb_ir.specs.AnfMachine.{free_block, free_op, free_of_atom}
-use Rattle.tb_ir.specs.AnfRules.{KeepsRules, MakesCell, ProcKeeps, binders, blocks, blocks_in, named, names_outside, of_each, operation, plain_binders, standing_at, times_named}
+use Rattle.tb_ir.specs.AnfMachine.{free_op, free_of_atom}
+use Rattle.tb_ir.specs.AnfRules.{KeepsRules, MakesCell, ProcKeeps, binders, blocks, blocks_in, of_each, operation, plain_binders, standing_at, times_named}
 use Rattle.tb_ir.specs.Rules.{times}
 use Rattle.tb_codegen.specs.Generate.{captured_in}
-use Rattle.tb_codegen.specs.Homes.{frame_size, index_of, made_from, origin, own_variables, slot_of}
+use Rattle.tb_codegen.specs.Homes.{frame_size, made_from, origin, own_variables, slot_of}
 use Rattle.tb_codegen.specs.Notes.{Noted}
 use Rattle.tb_codegen.proofs.Ok.{free}
 use Rattle.tb_codegen.proofs.OperationChains.{OpOk, QuoteOk}
-use Rattle.tb_codegen.proofs.BlockChains.{AllEntered, ArmsOk, BlockOk, HomeOk, HomesOk, kept-apart, kept-other}
+use Rattle.tb_codegen.proofs.BlockChains.{AllEntered, ArmsOk, BlockOk, HomeOk, HomesOk, kept-other}
 use Rattle.tb_codegen.proofs.CodeChains.{is_branch}
 use Rattle.tb_codegen.proofs.EntryChains.{apart-left, apart-right}
-use Rattle.tb_codegen.proofs.Homing.{index-below, index-same, origin-absent, origin-bound, origin-group}
+use Rattle.tb_codegen.proofs.Homing.{index-below, index-same, origin-bound, origin-group}
 use Rattle.tb_codegen.proofs.Namings.{IsProc, Uses, block-uses, by_lambda, by_operation, closed_within, each-append, every-at, in-each, in-proc, named-once, named-only, named_in_arms, named_within, times-append, times-arms, times-bind, times-in, times-tail}
 
 module _ (p : AnfTree) (all : List Noted) (rules : KeepsRules p) (q : ProcTree) (at : IsProc p q)

@@ -1,33 +1,33 @@
 -- What live words lead to can be reached in the source.
-use Rattle.std.proofs.Common.{◌≡◌, refl, sym, ◌∙◌, subst, subst₂, ap, ℕ, zero, suc, ◌+◌, ◌<◌, ◌≤◌, ◌⊎◌, ◌&&◌, ◌%◌, Bool, true, false, not, cond, arith, inl, inr, ⊎_elim, List, [], ◌∷◌, ◌++◌, length, Option, Some, None, slice_get}
+use Rattle.std.proofs.Common.{◌≡◌, refl, sym, subst, ap, ℕ, zero, suc, ◌+◌, ◌<◌, ◌%◌, Bool, arith, inl, inr, ⊎_elim, List, [], ◌∷◌, ◌++◌, length, Some, slice_get}
 use Rattle.std.specs.Prelude.{pos, take}
 use Rattle.std.proofs.lemmas.Bool.{cases_lt}
 use Rattle.tb_prim.specs.declared.constant.Const.{Const}
 use Rattle.tb_prim.specs.declared.constant.Const.TheVariants as K
 use Rattle.tb_prim.specs.declared.constant.Static.{Static}
-use Rattle.tb_semantics.specs.Graph.{Graph, IsIn, Reaches, root, child, below}
+use Rattle.tb_semantics.specs.Graph.{Graph, IsIn, Reaches}
 use Rattle.tb_semantics.proofs.ListLemmas.{get-some, in-cases, in-left, in-right}
-use Rattle.tb_semantics.proofs.Reachable.{HasMatch, below_in}
-use Rattle.tb_core.specs.Store.{Value, At, value_of}
+use Rattle.tb_semantics.proofs.Reachable.{HasMatch}
+use Rattle.tb_core.specs.Store.{Value, value_of}
 use Rattle.tb_core.specs.Space.{value_locations, values_locations}
 use Rattle.tb_ir.specs.AnfTree.{AnfTree}
-use Rattle.tb_ir.specs.AnfMachine.{AnfConfig, AnfFrames, AnfWork, Binding, language}
-use Rattle.tb_ir.specs.Machine.{Env, Empty, Frame, Item, Clo, bind_all, lookup}
-use Rattle.tb_ir.specs.Space.{control_locations, frames_locations, item_locations, locations_of, store_graph}
+use Rattle.tb_ir.specs.AnfMachine.{AnfFrames, language}
+use Rattle.tb_ir.specs.Machine.{Env, Empty, Item}
+use Rattle.tb_ir.specs.Space.{frames_locations}
 use Rattle.tb_ir.specs.TreeMachine.{env_values}
 use Rattle.tb_mac.specs.declared.word.Word.{Word}
 use Rattle.tb_mac.specs.declared.word.Word.TheVariants as W
 use Rattle.tb_mac.specs.Assembled.{Assembled}
-use Rattle.tb_mac.specs.Frames.{Frame as MacFrame, Framed}
+use Rattle.tb_mac.specs.Frames.{Frame as MacFrame}
 use Rattle.tb_mac.specs.Layout.{addresses, addresses_from, globals_size, static_tag}
 use Rattle.tb_mac.specs.LiveWords.{all_targets, live_slots, map_at, slots_at, slots_of, targets, waiting_slots}
-use Rattle.tb_codegen.specs.Notes.{Entry, Stands, Spot, Reg, Slot, Symbol, Constant, Variable, Itself, Capture, Note, Inside, Here, AtValue, Waiting, any, is_slot, note_map, slot_bits}
-use Rattle.tb_codegen.proofs.Bits.{Chosen, Entered', from_slots, slot_entry}
+use Rattle.tb_codegen.specs.Notes.{Entry, Stands, Spot, Reg, Slot, Symbol, Constant, Variable, Itself, Capture, Note, Inside, Here, AtValue, Waiting, slot_bits}
+use Rattle.tb_codegen.proofs.Bits.{from_slots, slot_entry}
 use Rattle.tb_codegen.proofs.Operands.{found_location}
-use Rattle.tb_codegen.proofs.Edges.{Match, word_target}
+use Rattle.tb_codegen.proofs.Edges.{word_target}
 use Rattle.tb_codegen.proofs.Memories.{p_get}
 use Rattle.tb_codegen.proofs.Ok.{Follows, HasNote, IsWritten}
-use Rattle.tb_codegen.proofs.Rel.{FsRel, f_none, f_then, f_top, globals_words, Has, JRel, j_caller, j_top, j_then, Link, Lk, Memory, Open, PRel, Saved, WRel, World, env_at, meaning, read}
+use Rattle.tb_codegen.proofs.Rel.{FsRel, f_none, f_then, f_top, globals_words, JRel, j_caller, j_top, j_then, Lk, Memory, Open, Saved, WRel, World, env_at, meaning}
 use Rattle.tb_codegen.proofs.Steps.{Constants}
 use Rattle.tb_codegen.proofs.Whole.{AllConstants}
 

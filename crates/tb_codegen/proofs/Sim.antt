@@ -1,9 +1,7 @@
 -- What a step of the machine comes to, and quiet steps, at which the source stands still.
-use Rattle.std.proofs.Common.{◌≡◌, refl, sym, ◌∙◌, subst, ap, ℕ, zero, suc, ◌+◌, ◌-◌, ◌<◌, ◌≤◌, ◌⊎◌, ◌==◌, Bool, true, false, cond, inl, inr, ⊎_elim, arith, List, [], ◌∷◌, ◌++◌, length, Option, Some, None, slice_get, slice_set, IsTrue, length-set, eq-eqb}
-use Rattle.std.specs.Prelude.{nat_lt, nat_le, take, drop, pos}
+use Rattle.std.proofs.Common.{◌≡◌, ℕ, ◌-◌, ◌<◌, ◌⊎◌, Bool, inl, inr, arith, List, length, Option, IsTrue}
 use Rattle.tb_prim.specs.declared.event.Event.{Event}
 use Rattle.tb_prim.specs.declared.event.Taken.{Taken}
-use Rattle.tb_prim.specs.declared.place.Place.{Place}
 use Rattle.tb_semantics.specs.Runs.{run}
 use Rattle.tb_core.specs.Store.{Value}
 use Rattle.tb_ir.specs.AnfTree.{AnfTree}
@@ -14,7 +12,7 @@ use Rattle.tb_mac.specs.Frames.{Frame as MacFrame, Framed}
 use Rattle.tb_mac.specs.FramedRuns.{FramedState, Runs, Stays, framed_full}
 use Rattle.tb_codegen.specs.Notes.{Entry, Own, Note, Inside, Point}
 use Rattle.tb_codegen.proofs.Ok.{HasNote}
-use Rattle.tb_codegen.proofs.Rel.{FsRel, Goes, Holds, Memory, OwnRel, PtRel, Rel, World, config, framed, open_of, r_inside, r_full, step_of}
+use Rattle.tb_codegen.proofs.Rel.{FsRel, Goes, Holds, Memory, OwnRel, PtRel, World, config, framed, open_of, r_inside, step_of}
 
 -- what a step leaves to its case: the machine without its frames, and the source without its control and frames
 pub record Still : Type 0 where

@@ -1,5 +1,5 @@
 -- Atoms, globals and branches.
-use Rattle.std.proofs.Common.{◌≡◌, refl, sym, ◌∙◌, subst, subst₂, ap, ℕ, zero, suc, ◌+◌, ◌-◌, ◌<◌, ◌≤◌, ◌⊎◌, ◌==◌, ◌%◌, Bool, cond, true, false, inl, inr, ⊎_elim, arith, List, [], ◌∷◌, ◌++◌, length, Option, Some, None, slice_get, slice_set, length-set}
+use Rattle.std.proofs.Common.{◌≡◌, refl, sym, ◌∙◌, subst, subst₂, ap, ℕ, ◌+◌, ◌-◌, ◌<◌, Bool, true, false, inl, ⊎_elim, arith, List, [], ◌∷◌, ◌++◌, length, Option, Some, slice_get, slice_set, length-set}
 use Rattle.tb_prim.specs.declared.event.Cause.{Cause}
 use Rattle.tb_prim.specs.declared.event.Event.{Event}
 use Rattle.tb_prim.specs.declared.event.Stop.{Stop}
@@ -12,29 +12,29 @@ use Rattle.tb_semantics.specs.Runs.{run}
 use Rattle.tb_semantics.proofs.ListLemmas.{get-some, in-left, in-right}
 use Rattle.tb_core.specs.Store.{Value, Unspecified, Undefined, value_of}
 use Rattle.tb_core.specs.Effects.{is_false}
-use Rattle.tb_ir.specs.AnfTree.{Operand, Quote, Var, Block, Op, Atom, Global, SetGlobal, DefGlobal, Branch, AnfTree}
-use Rattle.tb_ir.specs.AnfMachine.{AnfConfig, AnfFrames, AnfState, Code, InBlock, InOp, atom_value, free_block, free_of_atom, free_op, run_branch}
-use Rattle.tb_ir.specs.Machine.{Control, Env, Empty, Eval, Item, Running, Stopped, Val, assign_global, gather, go, lookup, read_value, set_held_global}
+use Rattle.tb_ir.specs.AnfTree.{Operand, Quote, Var, Block, Atom, Global, SetGlobal, DefGlobal, Branch, AnfTree}
+use Rattle.tb_ir.specs.AnfMachine.{AnfConfig, AnfFrames, InBlock, InOp, atom_value, free_of_atom, free_op}
+use Rattle.tb_ir.specs.Machine.{Env, Empty, Eval, Item, Val, assign_global, gather, go, read_value, set_held_global}
 use Rattle.tb_mac.specs.declared.code.Instr.{Instr}
 use Rattle.tb_mac.specs.declared.code.Instr.TheVariants as I
 use Rattle.tb_mac.specs.declared.word.Word.{Word}
 use Rattle.tb_mac.specs.declared.word.Word.TheVariants as W
 use Rattle.tb_mac.specs.Assembled.{Assembled}
-use Rattle.tb_mac.specs.Frames.{Frame as MacFrame, framed_perform}
+use Rattle.tb_mac.specs.Frames.{Frame as MacFrame}
 use Rattle.tb_mac.specs.MacStep.{place_of}
 use Rattle.tb_mac.specs.Words.{is_false as is_false_word, is_undefined}
-use Rattle.tb_codegen.specs.Notes.{Entry, Stands, Spot, Reg, Slot, Symbol, Constant, Variable, Own, Here, Note, Inside, AtBlock, AtValue, AtUnspecified, Waiting, Then, symbol_of}
+use Rattle.tb_codegen.specs.Notes.{Entry, Stands, Reg, Slot, Variable, Own, Here, Note, Inside, AtBlock, AtValue, AtUnspecified, Waiting, symbol_of}
 use Rattle.tb_codegen.specs.Generate.{captured_in, settled}
-use Rattle.tb_codegen.proofs.Changes.{Args, no_args, an_arg, From, Into, IsFirst, OpAt, at_bind, at_tail, Under}
-use Rattle.tb_codegen.proofs.Envs.{get-set, get-set-other, get-within, gather-sub, lookup-gather}
-use Rattle.tb_codegen.proofs.Holding.{first-put, fs-more, holds-from, holds-into, pushed, under}
-use Rattle.tb_codegen.proofs.Landing.{lands_block, lands_value}
-use Rattle.tb_codegen.proofs.Memories.{agree_left, agree_set, IsPlain, p_agree, p_get, p_set, plain_word}
+use Rattle.tb_codegen.proofs.Changes.{Args, no_args, an_arg, From, Into, IsFirst, OpAt, Under}
+use Rattle.tb_codegen.proofs.Envs.{get-set-other, gather-sub, lookup-gather}
+use Rattle.tb_codegen.proofs.Holding.{holds-from, under}
+use Rattle.tb_codegen.proofs.Landing.{lands_block}
+use Rattle.tb_codegen.proofs.Memories.{p_get, p_set, plain_word}
 use Rattle.tb_codegen.proofs.Moves.{done, Written}
 use Rattle.tb_codegen.proofs.Ok.{HasNote, Settles, free}
-use Rattle.tb_codegen.proofs.Operands.{Opers, op_none, op_more, at_op, atom_there, fails_op, lands_op, lands_written, op_starts, opers, value-gather}
-use Rattle.tb_codegen.proofs.Rel.{Closed, FsRel, o_here, Goes, Grows, globals_words, HasAny, Holds, InRel, JRel, j_then, Means, m_name, Memory, Open, OwnRel, PRel, PtRel, at_block, IsCut, Rel, Stores, WRel, w_fix, w_char, w_false, w_true, w_nil, w_unspecified, w_undefined, w_end, w_at, World, config, r_inside, step_of}
-use Rattle.tb_codegen.proofs.Sim.{Mem, Sim, Still, machine, source, target}
+use Rattle.tb_codegen.proofs.Operands.{atom_there, fails_op, lands_op, lands_written, op_starts, value-gather}
+use Rattle.tb_codegen.proofs.Rel.{Closed, FsRel, o_here, globals_words, Holds, JRel, Memory, Open, OwnRel, PRel, IsCut, WRel, w_fix, w_char, w_false, w_true, w_nil, w_unspecified, w_undefined, w_end, w_at, World, config, step_of}
+use Rattle.tb_codegen.proofs.Sim.{Sim, Still, source}
 use Rattle.tb_codegen.proofs.Stored.{stores_global}
 
 -- a word is false, or undefined, as its value is

@@ -1,40 +1,36 @@
 -- What a state of the machine holds is at most what the related state of the source holds, up to one frame and one
 -- procedure.
-use Rattle.std.proofs.Common.{◌≡◌, refl, sym, ◌∙◌, subst, subst₂, ap, ℕ, zero, suc, ◌+◌, ◌-◌, ◌<◌, ◌≤◌, ◌⊎◌, ◌&&◌, Bool, true, false, not, cond, arith, inl, inr, ⊎_elim, List, [], ◌∷◌, ◌++◌, length, Option, Some, None, slice_get}
+use Rattle.std.proofs.Common.{◌≡◌, refl, sym, ◌∙◌, subst, subst₂, ap, ℕ, zero, suc, ◌+◌, ◌-◌, ◌<◌, ◌≤◌, ◌⊎◌, ◌&&◌, Bool, true, false, not, arith, inl, inr, ⊎_elim, List, [], ◌∷◌, ◌++◌, length, Some, None, slice_get}
 use Rattle.std.specs.Prelude.{nat_le, nat_lt, pos, take}
 use Rattle.std.proofs.lemmas.Bool.{cases_eq, cases_lt, le-leb, lt-ltb}
-use Rattle.tb_prim.specs.declared.event.Taken.{Taken}
 use Rattle.tb_semantics.specs.Graph.{Graph, IsClosed, IsIn, Reaches, root, child, below, total}
-use Rattle.tb_semantics.specs.Keeps.{Fits}
 use Rattle.tb_semantics.proofs.ListLemmas.{get-some, in-cases, in-left, in-right}
-use Rattle.tb_semantics.proofs.Reachable.{HasMatch, Partners, PartnersBut, total-partners, total-partners_but, below_in}
+use Rattle.tb_semantics.proofs.Reachable.{HasMatch, total-partners, total-partners_but, below_in}
 use Rattle.tb_core.specs.Store.{Value, At}
 use Rattle.tb_core.specs.Space.{value_locations, values_locations}
 use Rattle.tb_ir.specs.AnfTree.{AnfTree}
 use Rattle.tb_ir.specs.AnfMachine.{AnfConfig, AnfFrames, Code, language}
-use Rattle.tb_ir.specs.Machine.{Control, Env, Empty, Item, Clo, Running, bind_all, lookup, mark_top}
-use Rattle.tb_ir.specs.Measures.{shape_of}
+use Rattle.tb_ir.specs.Machine.{Control, Env, Empty, Item, Clo, bind_all, mark_top}
 use Rattle.tb_ir.specs.Space.{closures_in, control_locations, frames_locations, item_locations, locations_of, marks, of_item, store_graph, words_in}
 use Rattle.tb_ir.specs.TreeMachine.{env_values}
 use Rattle.tb_mac.specs.declared.word.Word.{Word}
 use Rattle.tb_mac.specs.declared.word.Word.TheVariants as W
 use Rattle.tb_mac.specs.Assembled.{Assembled}
 use Rattle.tb_mac.specs.Frames.{Frame as MacFrame, Framed}
-use Rattle.tb_mac.specs.FramedRuns.{framed_shape}
 use Rattle.tb_mac.specs.Layout.{addresses, globals_size}
-use Rattle.tb_mac.specs.LiveWords.{all_targets, chosen, closure_count, counts_now, data_size, is_beyond, is_bit_set, is_live_register, live_registers, live_slots, live_words, map_at, object_graph, operand_count, pointing_words, slots_of, stack_slots, targets, targets_from, waiting_slots}
+use Rattle.tb_mac.specs.LiveWords.{all_targets, chosen, closure_count, counts_now, data_size, is_beyond, is_bit_set, is_live_register, live_registers, live_words, map_at, object_graph, operand_count, slots_of, stack_slots, targets, waiting_slots}
 use Rattle.tb_mac.specs.Objects.{procedure_kind, procedure_tag}
 use Rattle.tb_mac.specs.Words.{on_some}
-use Rattle.tb_codegen.specs.Notes.{any, AtLifted, is_slot, Entry, Stands, Spot, Reg, Slot, Symbol, Constant, Variable, Itself, Capture, Note, Inside, Own, Away, Here, Ready, Point, note_map, register_bits, slot_bits}
+use Rattle.tb_codegen.specs.Notes.{any, AtLifted, is_slot, Entry, Stands, Spot, Reg, Slot, Symbol, Constant, Variable, Itself, Capture, Note, Inside, Own, Point, note_map, register_bits, slot_bits}
 use Rattle.tb_codegen.specs.Generate.{captured_in}
 use Rattle.tb_codegen.proofs.Bits.{Chosen, Entered', digit, from_chosen, from_slots, register_entry, slot_entry}
 use Rattle.tb_codegen.proofs.Operands.{found_location}
-use Rattle.tb_codegen.proofs.Edges.{Match, closure_fits, data_fits, env_bind_all, object_target}
+use Rattle.tb_codegen.proofs.Edges.{closure_fits, data_fits, env_bind_all, object_target}
 use Rattle.tb_codegen.proofs.Changes.{Param, here_param, there_param, StartsLifted}
 use Rattle.tb_codegen.proofs.Envs.{get-within}
 use Rattle.tb_codegen.proofs.Ok.{Follows, HasNote}
-use Rattle.tb_codegen.proofs.Rel.{AtCall, Ins, in_none, in_more, Caps, Closed, FsRel, f_none, f_then, f_top, globals_words, HasAny, Holds, JRel, j_caller, j_top, j_then, Lk, Linked, Means, m_name, m_itself, m_capture, Memory, Open, ORel, o_cell, o_pair, o_vector, o_string, o_symbol, o_procedure, OwnRel, o_away, o_here, o_ready, PtRel, at_block, at_value, at_unspecified, at_fill, at_all, Stores, WRel, w_at, World, config, env_at, fill_of, meaning, open_of, read}
-use Rattle.tb_codegen.proofs.Seen.{P, Seen, fixed_seen, index_in, jrel_in, jrel_sub, name_seen, target_in, waiting_seen, word_seen}
+use Rattle.tb_codegen.proofs.Rel.{AtCall, Ins, in_none, in_more, Closed, FsRel, f_none, f_then, f_top, Holds, JRel, j_caller, j_top, j_then, Means, m_name, m_itself, m_capture, Memory, Open, ORel, o_cell, o_pair, o_vector, o_string, o_symbol, o_procedure, OwnRel, o_away, o_here, o_ready, PtRel, at_block, at_value, at_unspecified, at_fill, at_all, Stores, WRel, w_at, World, env_at, fill_of, open_of, read}
+use Rattle.tb_codegen.proofs.Seen.{P, Seen, fixed_seen, jrel_in, jrel_sub, name_seen, target_in, waiting_seen, word_seen}
 use Rattle.tb_codegen.proofs.Steps.{Constants}
 use Rattle.tb_codegen.proofs.Whole.{AllConstants}
 

@@ -1,10 +1,10 @@
 -- Code that follows its notes: one step, by the instruction.
-use Rattle.std.proofs.Common.{◌≡◌, refl, sym, ◌∙◌, subst, ap, ℕ, suc, ◌+◌, ◌-◌, ◌<◌, arith, inl, List, [], ◌∷◌, length, Option, Some, None, slice_get}
+use Rattle.std.proofs.Common.{◌≡◌, refl, ℕ, ◌-◌, ◌<◌, inl, List, [], ◌∷◌, length, Option, Some}
 use Rattle.tb_prim.specs.declared.constant.Const.{Const}
 use Rattle.tb_prim.specs.declared.place.Place.{Place}
 use Rattle.tb_semantics.specs.Graph.{IsIn}
 use Rattle.tb_core.specs.Store.{Value, Undefined}
-use Rattle.tb_ir.specs.AnfTree.{Operand, Block, Op, PrimUse, AnfTree, ProcTree}
+use Rattle.tb_ir.specs.AnfTree.{Operand, Block, Op, PrimUse, AnfTree}
 use Rattle.tb_ir.specs.AnfMachine.{AnfFrames, Code, InBlock, atom_value}
 use Rattle.tb_ir.specs.AnfRules.{operation}
 use Rattle.tb_ir.specs.Machine.{Control, Env, Eval}
@@ -13,7 +13,7 @@ use Rattle.tb_mac.specs.declared.word.Word.{Word}
 use Rattle.tb_mac.specs.Assembled.{Assembled}
 use Rattle.tb_mac.specs.Frames.{Frame as MacFrame}
 use Rattle.tb_mac.specs.MacStep.{place_of}
-use Rattle.tb_codegen.specs.Notes.{Entry, Stands, Spot, Constant, Own, Note, Inside, Point, AtBlock, Waiting}
+use Rattle.tb_codegen.specs.Notes.{Entry, Stands, Spot, Constant, Own, Note, Inside, Point, Waiting}
 use Rattle.tb_codegen.specs.Generate.{captured_in}
 use Rattle.tb_codegen.proofs.Applies.{step_apply}
 use Rattle.tb_codegen.proofs.Calls.{step_direct, step_invoke}

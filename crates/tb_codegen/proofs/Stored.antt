@@ -1,22 +1,20 @@
 -- Heap and store stay related when a word of an object is written and when an object is made.
-use Rattle.std.proofs.Common.{◌≡◌, refl, sym, ◌∙◌, subst, subst₂, ap, ℕ, zero, suc, ◌+◌, ◌-◌, ◌<◌, ◌≤◌, ◌⊎◌, ◌==◌, ◌/◌, ◌%◌, Bool, cond, true, false, inl, inr, ⊎_elim, arith, List, [], ◌∷◌, ◌++◌, length, Option, Some, None, slice_get, slice_set, length-set, eq-eqb, ne_eqb}
-use Rattle.std.specs.Prelude.{pos}
+use Rattle.std.proofs.Common.{◌≡◌, refl, sym, ◌∙◌, subst, subst₂, ap, ℕ, zero, suc, ◌+◌, ◌<◌, ◌≤◌, ◌⊎◌, ◌==◌, ◌/◌, ◌%◌, Bool, cond, true, false, inl, inr, ⊎_elim, arith, List, [], ◌∷◌, ◌++◌, length, Option, Some, None, slice_get, slice_set, length-set}
 use Rattle.std.proofs.lemmas.Bool.{cases_eq}
 use Rattle.std.proofs.lemmas.List.{length-append}
 use Rattle.tb_semantics.specs.Graph.{IsIn}
-use Rattle.tb_semantics.proofs.ListLemmas.{get-last, get-left, set-other}
-use Rattle.tb_core.specs.Store.{Value, Object, Pair, Vec, Str, Sym}
+use Rattle.tb_semantics.proofs.ListLemmas.{set-other}
 use Rattle.tb_ir.specs.AnfTree.{AnfTree}
-use Rattle.tb_ir.specs.Machine.{Item, Cell, Obj, Clo}
-use Rattle.tb_ir.specs.Space.{closures_in, made, words_in}
+use Rattle.tb_ir.specs.Machine.{Item}
+use Rattle.tb_ir.specs.Space.{made}
 use Rattle.tb_mac.specs.declared.word.Word.{Word}
 use Rattle.tb_mac.specs.declared.word.Word.TheVariants as W
 use Rattle.tb_mac.specs.LiveWords.{closure_count, data_size, object_size as words_from}
 use Rattle.tb_mac.specs.Objects.{procedure_kind, string_kind, symbol_kind}
 use Rattle.tb_codegen.specs.Notes.{Note}
-use Rattle.tb_codegen.proofs.Envs.{get-set, get-set-other, get-within}
+use Rattle.tb_codegen.proofs.Envs.{get-set, get-within}
 use Rattle.tb_codegen.proofs.Memories.{Agree, agree_left, agree_set, chained_new, chained_set, IsPlain, p_agree, plain_word}
-use Rattle.tb_codegen.proofs.Rel.{BytesAt, Chained, ch_end, ch_more, Fill, Grows, IsBefore, Link, Lk, Linked, Open, ORel, o_cell, o_pair, o_vector, o_string, o_symbol, o_procedure, Part, PRel, p_full, Stores, Whole, World, WRel, unmade, fill_of, filled, tag_of}
+use Rattle.tb_codegen.proofs.Rel.{BytesAt, Chained, ch_end, ch_more, Fill, Grows, IsBefore, Lk, Linked, Open, ORel, o_cell, o_pair, o_vector, o_string, o_symbol, o_procedure, p_full, Stores, World, unmade, fill_of, tag_of}
 
 -- bytes in words that agree
 bytes_agree : (heap heap2 : List Word) (a b : ℕ) (cs : List ℕ) → a + (length cs + 3) / 4 ≤ b → Agree heap heap2 a b → BytesAt heap a cs → BytesAt heap2 a cs

@@ -1,30 +1,27 @@
 -- A value in RESULT goes to what waits for it; forms begin, and the program ends.
-use Rattle.std.proofs.Common.{◌≡◌, refl, sym, ◌∙◌, subst, ap, ℕ, zero, suc, ◌+◌, ◌-◌, ◌<◌, ◌≤◌, ◌⊎◌, ◌==◌, Bool, true, false, inl, inr, ⊎_elim, arith, List, [], ◌∷◌, ◌++◌, length, Option, Some, None, slice_get, slice_set, length-set, length-drop, eq-eqb, lt-ltb, le-ltb}
+use Rattle.std.proofs.Common.{◌≡◌, refl, sym, ◌∙◌, subst, ℕ, zero, suc, ◌+◌, ◌-◌, ◌<◌, inl, inr, ⊎_elim, arith, List, [], ◌∷◌, ◌++◌, length, Some, None, slice_get, slice_set, length-set, length-drop, lt-ltb, le-ltb}
 use Rattle.std.proofs.lemmas.Bool.{cases_lt}
 use Rattle.std.specs.Prelude.{take, drop}
 use Rattle.tb_semantics.specs.Graph.{IsIn}
-use Rattle.tb_semantics.specs.Runs.{run}
 use Rattle.tb_prim.specs.declared.event.Event.{Event}
 use Rattle.tb_core.specs.Store.{Value, Unspecified}
 use Rattle.tb_ir.specs.AnfTree.{Block, AnfTree}
-use Rattle.tb_ir.specs.AnfMachine.{AnfFrames, AnfState, Code, InBlock, form_of}
-use Rattle.tb_ir.specs.Machine.{Control, Env, Empty, Eval, Item, Val, gather}
-use Rattle.tb_mac.specs.declared.code.Instr.{Instr}
+use Rattle.tb_ir.specs.AnfMachine.{AnfFrames, Code, InBlock, form_of}
+use Rattle.tb_ir.specs.Machine.{Control, Env, Empty, Item, gather}
 use Rattle.tb_mac.specs.declared.code.Instr.TheVariants as I
 use Rattle.tb_mac.specs.declared.word.Word.{Word}
-use Rattle.tb_mac.specs.declared.word.Word.TheVariants as W
 use Rattle.tb_mac.specs.Assembled.{Assembled}
 use Rattle.tb_mac.specs.Frames.{Frame as MacFrame}
 use Rattle.tb_mac.specs.Words.{imm_bits, unspecified}
-use Rattle.tb_codegen.specs.Notes.{Entry, Stands, Spot, Reg, Slot, Symbol, Constant, Variable, Itself, Capture, Own, Here, Away, Note, Inside, Point, AtBlock, AtValue, AtUnspecified, Waiting, ToCaller, ToTop, Then}
+use Rattle.tb_codegen.specs.Notes.{Entry, Stands, Reg, Slot, Symbol, Constant, Variable, Itself, Capture, Own, Here, Away, Note, Inside, AtBlock, AtValue, AtUnspecified, Waiting, ToCaller, ToTop, Then}
 use Rattle.tb_codegen.specs.Generate.{settled}
-use Rattle.tb_codegen.proofs.Changes.{From, Given, Into, IsFirst, IsNew, Same}
-use Rattle.tb_codegen.proofs.Holding.{first-put, given, holds-any, holds-from, holds-into, holds-slot, new-put, same-means}
+use Rattle.tb_codegen.proofs.Changes.{Given, Into, IsFirst, IsNew, Same}
+use Rattle.tb_codegen.proofs.Holding.{first-put, given, holds-into, holds-slot, new-put, same-means}
 use Rattle.tb_codegen.proofs.Landing.{lands_block, lands_value}
 use Rattle.tb_codegen.proofs.Moves.{done}
 use Rattle.tb_codegen.proofs.Ok.{HasNote, Settles, free}
-use Rattle.tb_codegen.proofs.Rel.{FsRel, f_none, f_then, f_top, Goes, Has, HasAny, Holds, JRel, j_caller, j_then, j_top, Means, m_name, Memory, OwnRel, o_away, o_here, PtRel, at_unspecified, at_value, Rel, Saved, WRel, w_unspecified, World, meaning, r_full, r_inside, r_stopped, step_of}
-use Rattle.tb_codegen.proofs.Sim.{Mem, Sim, Still, machine, quiet, source, target}
+use Rattle.tb_codegen.proofs.Rel.{FsRel, f_none, f_then, f_top, HasAny, Holds, j_caller, j_then, j_top, Means, m_name, OwnRel, o_away, o_here, PtRel, at_unspecified, at_value, Saved, WRel, w_unspecified, World, meaning, r_full, r_inside, r_stopped}
+use Rattle.tb_codegen.proofs.Sim.{Mem, Sim, Still, quiet, source}
 
 -- the value itself
 pub first_is : (p : AnfTree) (st : List Item) (v u : Value) (rs : List Env) → Means p st (Env.Bind 0 v Empty ∷ rs) (Variable 0 0) u → v ≡ u

@@ -1,14 +1,12 @@
 -- What an operand is to the primitives: a constant, or an object or procedure with its words.
-use Rattle.std.proofs.Common.{◌≡◌, refl, sym, ◌∙◌, subst, ap, ℕ, suc, arith, ◌+◌, ◌<◌, ◌^◌, Bool, true, false, List, [], ◌∷◌, length, Option, Some, None, slice_get}
-use Rattle.std.specs.Prelude.{ℤ}
+use Rattle.std.proofs.Common.{◌≡◌, refl, sym, subst, ℕ, suc, arith, ◌+◌, ◌<◌, ◌^◌, Bool, false, List, length, Some, None, slice_get}
 use Rattle.tb_semantics.specs.Graph.{IsIn}
 use Rattle.tb_core.specs.Store.{Value, At, Truth, Nil, Unspecified, Undefined, EndObject, Object, Pair, Vec, Str, Sym, Content, Holds, Procedure, Other}
 use Rattle.tb_core.specs.Effects as E
 use Rattle.tb_ir.specs.AnfTree.{AnfTree}
-use Rattle.tb_ir.specs.Machine.{Item, Cell, Obj, Clo, contents}
+use Rattle.tb_ir.specs.Machine.{Item, Obj, contents}
 use Rattle.tb_mac.specs.declared.word.Word.{Word}
 use Rattle.tb_mac.specs.declared.word.Word.TheVariants as W
-use Rattle.tb_mac.specs.Effects as M
 use Rattle.tb_mac.specs.Effects.{Heap, object_at, pair_at}
 use Rattle.tb_mac.specs.Objects.{cell_kind, pair_tag, procedure_kind, procedure_tag, string_kind, string_tag, symbol_kind, vector_kind, vector_tag}
 use Rattle.tb_codegen.specs.Notes.{Note}

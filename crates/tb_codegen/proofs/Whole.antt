@@ -1,5 +1,5 @@
 -- Code that follows its notes moves on as the program in A-normal form does.
-use Rattle.std.proofs.Common.{◌≡◌, refl, sym, ◌∙◌, subst, ap, ℕ, zero, suc, ◌+◌, ◌-◌, ◌<◌, ◌⊎◌, arith, inl, inr, ⊎_elim, List, [], ◌∷◌, ◌++◌, length, Option, Some, None, slice_get, IsTrue}
+use Rattle.std.proofs.Common.{◌≡◌, refl, ◌∙◌, subst, ap, ℕ, zero, suc, ◌+◌, ◌-◌, arith, ⊎_elim, List, ◌∷◌, length, Option}
 use Rattle.tb_prim.specs.declared.place.Place.{Place}
 use Rattle.tb_prim.specs.declared.event.Event.{Event}
 use Rattle.tb_semantics.specs.Runs.{run, after}
@@ -14,7 +14,7 @@ use Rattle.tb_ir.specs.Machine.{Closure, Lifted, Control, Entering, Frame, confi
 use Rattle.tb_ir.specs.Measures.{anf_measured}
 use Rattle.tb_mac.specs.declared.code.Instr.{Instr}
 use Rattle.tb_mac.specs.Assembled.{Assembled}
-use Rattle.tb_mac.specs.FramedRuns.{FramedState, Runs, Stays, framed_events, measured_machine}
+use Rattle.tb_mac.specs.FramedRuns.{FramedState, framed_events, measured_machine}
 use Rattle.tb_mac.specs.Frames.{Frame as MacFrame}
 use Rattle.tb_mac.specs.MacStep.{place_of}
 use Rattle.tb_codegen.specs.Notes.{Entry, Note, Inside, AtProc, AtArgs, AtLifted, Own, Point}
@@ -24,7 +24,7 @@ use Rattle.tb_codegen.proofs.Moves.{done}
 use Rattle.tb_codegen.proofs.Ok.{Falls, Follows, Further, HasNote, Lifts, Ok, ok_args, ok_args_ge, ok_lifted, ok_proc}
 use Rattle.tb_codegen.proofs.Rel.{AboutTo, AtCall, Closed, FsRel, Ins, Memory, config, Goes, Rel, r_args, r_calls, r_failed, r_full, r_inside, r_lifted, r_lost, r_stopped, World, step_of}
 use Rattle.tb_codegen.proofs.RestLists.{step_args_ge}
-use Rattle.tb_codegen.proofs.Sim.{Sim, Still, measure, source, target}
+use Rattle.tb_codegen.proofs.Sim.{Sim, Still, measure, source}
 use Rattle.tb_codegen.proofs.Steps.{Constants, Unmarked, step_inside}
 
 -- the constants of all maps can be written

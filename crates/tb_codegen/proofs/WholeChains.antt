@@ -1,21 +1,20 @@
 -- The items of a whole program follow their notes: its forms, the end, and its lambdas.
-use Rattle.std.proofs.Common.{◌≡◌, true≢false, ℕ, zero, suc, ◌≤◌, ◌<◌, ◌+◌, ◌-◌, ◌⊎◌, Bool, true, false, cond, List, [], ◌∷◌, ◌++◌, length, take, Option, Some, None, slice_get, refl, sym, ap, ◌∙◌, subst, inl, inr, ⊎_elim, append-nil, zero-add, arith}
+use Rattle.std.proofs.Common.{◌≡◌, ℕ, suc, ◌≤◌, ◌+◌, ◌-◌, ◌⊎◌, Bool, true, false, cond, List, [], ◌∷◌, ◌++◌, length, Some, None, slice_get, refl, sym, ap, ◌∙◌, subst, inl, inr, ⊎_elim, zero-add, arith}
 use Rattle.std.proofs.lemmas.List.{length-take}
 use Rattle.tb_semantics.specs.Graph.{IsApart, IsIn}
 use Rattle.tb_semantics.proofs.ListLemmas.{in-left, in-right, in-cases}
-use Rattle.tb_ir.specs.AnfTree.{Block, ProcTree, AnfTree}
+use Rattle.tb_ir.specs.AnfTree.{ProcTree, AnfTree}
 use Rattle.tb_ir.specs.AnfMachine.{InBlock, form_of, own_formals, proc_of}
 use Rattle.tb_ir.specs.AnfRules.{forms_of, lambdas_of}
 use Rattle.tb_mac.specs.declared.code.Instr.TheVariants as I
 use Rattle.tb_codegen.specs.Homes.{slot_of, frame_size}
-use Rattle.tb_codegen.specs.Notes.{Spot, Reg, Slot, Symbol, Variable, Itself, Entry, Stands, Waiting, ToCaller, ToTop, Point, AtBlock, AtValue, Away, Here, Note, Inside, AtProc, AtArgs, AtLifted, Noted, Mark, Does}
-use Rattle.tb_codegen.specs.Operations.{Body, variables, block_map, here}
-use Rattle.tb_codegen.specs.Generate.{captured_in, settled, block_note, block_point, operands_map, itself_map, frame_made, counting, entry, body_of, labels_in, labels_within, code_block, code_form, code_forms, code_lambda, code_lambdas, noted_items}
-use Rattle.tb_codegen.proofs.Changes.{Same, same, From, Param, Starts, StartsLifted, Caught}
-use Rattle.tb_codegen.proofs.Ok.{Entered, Lifts, Ok, ok_form, ok_end, ok_proc, ok_args, ok_args_ge, ok_lifted, free}
-use Rattle.tb_codegen.proofs.Chains.{Target, Chain, c_end, c_does, c_mark, c_dead, chain-on}
-use Rattle.tb_codegen.proofs.OperationChains.{body}
-use Rattle.tb_codegen.proofs.BlockChains.{BlockOk, Within, empties}
+use Rattle.tb_codegen.specs.Notes.{ToCaller, ToTop, AtBlock, AtValue, Away, Here, Inside, AtProc, AtArgs, AtLifted, Noted, Mark, Does}
+use Rattle.tb_codegen.specs.Operations.{variables, block_map}
+use Rattle.tb_codegen.specs.Generate.{settled, block_point, operands_map, itself_map, frame_made, counting, entry, body_of, labels_in, labels_within, code_block, code_form, code_forms, code_lambda, code_lambdas, noted_items}
+use Rattle.tb_codegen.proofs.Changes.{Starts, Caught}
+use Rattle.tb_codegen.proofs.Ok.{Entered, Ok, ok_form, ok_end, ok_proc, ok_args, ok_args_ge, ok_lifted, free}
+use Rattle.tb_codegen.proofs.Chains.{Target, Chain, c_end, c_does, c_dead, chain-on}
+use Rattle.tb_codegen.proofs.BlockChains.{BlockOk, empties}
 use Rattle.tb_codegen.proofs.CodeChains.{block-chain}
 use Rattle.tb_codegen.proofs.EntryChains.{Entering, Names, apart-left, apart-right, frame-chain, from-refl, itself-only, operands-in}
 use Rattle.tb_codegen.proofs.Maps.{Named, entry-spot, entry-symbol}

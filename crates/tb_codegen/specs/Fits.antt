@@ -3,7 +3,7 @@
 use Rattle.std.specs.Prelude.{◌<◌, ◌≤◌, ◌^◌, List, [], length}
 use Rattle.tb_prim.specs.declared.constant.Const.{Const}
 use Rattle.tb_core.specs.Rules.{Every}
-use Rattle.tb_ir.specs.AnfTree.{Operand, Quote, Var, Op, Call, Direct, ProcTree, AnfTree}
+use Rattle.tb_ir.specs.AnfTree.{Operand, Quote, Op, Call, Direct, ProcTree, AnfTree}
 use Rattle.tb_ir.specs.AnfRules.{atoms, operations}
 use Rattle.tb_ir.specs.AnfWidth.{square_sum, width_of}
 use Rattle.tb_mac.specs.Rules.{PartsOk}

@@ -1,10 +1,15 @@
 //! What code of programs in A-normal form keeps.
 
-ghost use Rattle.std.specs.Prelude.{◌≤◌, ◌+◌, ◌*◌};
+ghost use Rattle.std.specs.Prelude.{◌≤◌, ◌+◌, ◌*◌, ℕ, List};
+ghost use Rattle.tb_semantics.specs.Keeps.{Keeps};
+ghost use Rattle.tb_semantics.specs.Runs.{after};
 ghost use Rattle.tb_ir.specs.AnfTree.{AnfTree};
 ghost use Rattle.tb_ir.specs.AnfRules.{KeepsRules};
 ghost use Rattle.tb_ir.specs.AnfWidth.{width_of};
+ghost use Rattle.tb_ir.specs.Measures.{anf_measured};
 ghost use Rattle.tb_mac.specs.Bounds.{frame_bound, space_bound};
+ghost use Rattle.tb_mac.specs.FramedRuns.{framed_machine, framed_of, measured_machine};
+ghost use Rattle.tb_mac.specs.LiveWords.{IsWalkable};
 ghost use Rattle.tb_codegen.specs.Fits.{Fits};
 ghost use Rattle.tb_codegen.specs.PlainCode.{code_of};
 
@@ -13,4 +18,17 @@ ghost use Rattle.tb_codegen.specs.PlainCode.{code_of};
 pub fn frames_are_narrow()
     ensures frames { (p : AnfTree) → KeepsRules p → Fits p → frame_bound (code_of p).code ≤ width_of p }
     ensures factor { (p : AnfTree) → KeepsRules p → Fits p → space_bound (code_of p).code ≤ 4 * (width_of p + 16) }
+{}
+
+/// In every memory and with every input, code has the events of its program, holds no more in each window but for one
+/// frame and one procedure, has made no more, and comes to each event unless its memory is full before it.
+pub fn code_keeps()
+    ensures keeps { (p : AnfTree) → KeepsRules p → Fits p → (heap : ℕ) (input : List ℕ) →
+        Keeps (measured_machine (code_of p) heap input) (anf_measured p input) 1 }
+{}
+
+/// Each state of a run of code is walkable: the maps of its frames have as many slots as these.
+pub fn code_is_walkable()
+    ensures walkable { (p : AnfTree) → KeepsRules p → Fits p → (heap : ℕ) (input : List ℕ) (n : ℕ) →
+        IsWalkable (code_of p) (framed_of (after (framed_machine (code_of p) heap input) n)) }
 {}

@@ -8,14 +8,5 @@ pub mod Lookups
 pub mod Rows
 pub mod Reading
 pub mod Counts
-pub mod Views
-pub mod Works
-pub mod Forms
-pub mod Levels
-pub mod TopForms
-pub mod SplitLists
-pub mod Expanding
 pub mod Items
 pub mod Scanning
-pub mod Tables
-pub mod Placing

@@ -36,7 +36,7 @@ goes_start st c ds l = record {
 abbrev lists_of : List Var → List Binder → List Defined → Lists
 lists_of xs bs vs = record { variables = xs; binders = bs; values = vs }
 
-pub same_lists : (xs ys : List Var) (bs cs : List Binder) (vs ws : List Defined) → xs ≡ ys → bs ≡ cs → vs ≡ ws → lists_of xs bs vs ≡ lists_of ys cs ws
+same_lists : (xs ys : List Var) (bs cs : List Binder) (vs ws : List Defined) → xs ≡ ys → bs ≡ cs → vs ≡ ws → lists_of xs bs vs ≡ lists_of ys cs ws
 same_lists xs ys bs cs vs ws p q r = ap (λ xs. lists_of xs bs vs) p ∙ ap (λ bs. lists_of ys bs vs) q ∙ ap (λ vs. lists_of ys cs vs) r
 
 one_found : (l : Lists) (t : ℕ) (e : Definition) (f : Found) → with_found (with_one t e l) f ≡ with_found l (and_one t e f)

@@ -1,29 +1,20 @@
 //! The expansion of data into the core language: what a datum means in an environment, and the first refusal in it.
 #![tactic(auto)]
 
-mod build;
 mod constants;
 mod context;
 mod definition;
 mod examples;
-mod expansion;
 mod expression;
 mod form;
 mod laws;
 mod limits;
 mod name;
-mod node;
-mod numbers;
-mod outside;
-mod queue;
 mod refusal;
 mod scan;
 mod shapes;
-mod splitting;
 mod state;
-mod text;
 mod tree;
-mod walks;
 
 pub use constants::{has_fixnums, node_has_fixnums};
 pub use context::Context;

@@ -1,0 +1,10 @@
+pub mod Lists
+pub mod Sums
+pub mod Agree
+pub mod Whole
+pub mod Same
+pub mod Counts
+pub mod Standing
+pub mod Few
+pub mod Bound
+pub mod Orders

@@ -1,3 +1,0 @@
-//! The program of a text: its nodes with their numbers.
-mod statics;
-mod tables;
