@@ -1,17 +1,20 @@
 //! What code of programs in A-normal form keeps.
 
-ghost use Rattle.std.specs.Prelude.{◌≤◌, ◌+◌, ◌*◌, ℕ, List};
+ghost use Rattle.std.specs.Prelude.{◌<◌, ◌≤◌, ◌+◌, ◌*◌, ◌^◌, ℕ, List, length, map};
 ghost use Rattle.tb_semantics.specs.Keeps.{Keeps};
 ghost use Rattle.tb_semantics.specs.Runs.{after};
 ghost use Rattle.tb_ir.specs.AnfTree.{AnfTree};
 ghost use Rattle.tb_ir.specs.AnfRules.{KeepsRules};
 ghost use Rattle.tb_ir.specs.AnfWidth.{width_of};
 ghost use Rattle.tb_ir.specs.Measures.{anf_measured};
+ghost use Rattle.tb_mac.specs.Assemble.{ItemsOk, instructions};
 ghost use Rattle.tb_mac.specs.Bounds.{frame_bound, space_bound};
 ghost use Rattle.tb_mac.specs.FramedRuns.{framed_machine, framed_of, measured_machine};
 ghost use Rattle.tb_mac.specs.LiveWords.{IsWalkable};
 ghost use Rattle.tb_codegen.specs.Fits.{Fits};
-ghost use Rattle.tb_codegen.specs.PlainCode.{code_of};
+ghost use Rattle.tb_codegen.specs.Generate.{noted_items};
+ghost use Rattle.tb_codegen.specs.Notes.{item_of};
+ghost use Rattle.tb_codegen.specs.PlainCode.{code_of, parts_of};
 
 /// No frame or closure has more words than the program is wide, so that the factor of the bound on space is at most
 /// four times the width and 64.
@@ -31,4 +34,10 @@ pub fn code_keeps()
 pub fn code_is_walkable()
     ensures walkable { (p : AnfTree) → KeepsRules p → Fits p → (heap : ℕ) (input : List ℕ) (n : ℕ) →
         IsWalkable (code_of p) (framed_of (after (framed_machine (code_of p) heap input) n)) }
+{}
+
+/// The items of a program keep all conditions of `assemble`, as long as there are fewer than 2^24 instructions.
+pub fn items_can_be_assembled()
+    ensures conditions { (p : AnfTree) → KeepsRules p → Fits p → length (instructions (map item_of (noted_items p))) < 2 ^ 24 →
+        ItemsOk (parts_of p) (map item_of (noted_items p)) }
 {}
