@@ -17,7 +17,8 @@ use Rattle.tb_expand.specs.Texts.{top_kind}
 use Rattle.tb_expand.specs.calls.Expand.{Made, Scanner, scan_define, scan_behind, scan_kind, scan_step, scan, Deeper, all, sequence, Bodies, lambda, procedure, defined, each, body_parts, body_defining, body_found, body_step, made, of_expression, step, expand, bodies, Upper, global_as, global, forms, form_of_kind, form}
 use Rattle.tb_expand.proofs.Answers.{Finished, on_finished, limit_finished}
 use Rattle.tb_expand.proofs.Sound.{IsScan, scan_sound, AreSo, all_so, Sound, sound}
-use Rattle.tb_expand.proofs.Sizes.{size, size_all, some_size, Suits, Fits, expression_fits, ValueFits, DefinitionFits, definition_fits, KindFits, kind_fits, top_kind_fits}
+use Rattle.tb_expand.proofs.Sizes.{size, size_all, some_size, Fits, expression_fits, ValueFits, DefinitionFits, definition_fits, KindFits, kind_fits, top_kind_fits}
+use Rattle.tb_expand.specs.calls.Expanded.{Suits}
 
 -- what was found in a body is smaller than the body
 abbrev AllFit : ℕ → List Defined → Type 0

@@ -1,5 +1,5 @@
 -- Scanning the items of a body one after another.
-use Rattle.std.proofs.Common.{◌≡◌, ◌≢◌, refl, sym, ap, ◌∙◌, subst, ℕ, zero, suc, ◌+◌, ◌≤◌, ◌<◌, arith, List, [], ◌∷◌, ◌++◌, length, map, reverse, get_or, take, drop, drop-cons, length-drop, ◌-◌, append_assoc, Option, Some, None}
+use Rattle.std.proofs.Common.{◌≡◌, refl, sym, ap, ◌∙◌, subst, ℕ, zero, suc, ◌+◌, ◌≤◌, ◌<◌, arith, List, [], ◌∷◌, ◌++◌, length, map, reverse, get_or, take, drop, drop-cons, length-drop, ◌-◌, append_assoc, Some}
 use Rattle.std.proofs.lemmas.List.{reverse-append, map-append, length-reverse, length-map}
 use Rattle.std.proofs.Math.Seq.{take-length}
 use Rattle.tb_expand.proofs.Rows.{drop_none}
@@ -9,14 +9,13 @@ use Rattle.tb_sexp.specs.Tree as datum
 use Rattle.tb_sexp.specs.View as data_view
 use Rattle.tb_expand.specs.declared.context.Context.{Context}
 use Rattle.tb_expand.specs.declared.state.Scope.{Scope as ScopeCode}
-use Rattle.tb_expand.specs.Names.{Name, Binder}
+use Rattle.tb_expand.specs.Names.{Binder}
 use Rattle.tb_expand.specs.Trees.{Var}
 use Rattle.tb_expand.specs.Refusals.{Refusal, BadForm}
 use Rattle.tb_expand.specs.Scopes.{State, fresh}
 use Rattle.tb_expand.specs.Limits.{within}
 use Rattle.tb_expand.specs.Shapes.{Defined, Definition, definition_of}
-use Rattle.tb_expand.specs.Bodies.{Kind, Defining, Beginning, kind, Found, nothing_more, and_one, and_then, defined_in, Scans, scanned, expressions, a_definition, a_begin, ScanRefuses, no_definition, behind_definition, in_begin, expression_in_begin, behind_begin}
-use Rattle.tb_expand.specs.Bodies as body
+use Rattle.tb_expand.specs.Bodies.{Defining, Beginning, kind, Found, nothing_more, and_one, and_then, defined_in, Scans, scanned, expressions, a_definition, a_begin, ScanRefuses, no_definition, behind_definition, in_begin, expression_in_begin, behind_begin}
 use Rattle.tb_expand.specs.calls.Scanned.{Lists, with_found, with_one, ScanGives, Goes, Stands, Passes, ItemRefuses, BeginRefuses, within_begin, not_all_define}
 use Rattle.tb_expand.specs.declared.refusal.ExpandRefusal.{ExpandRefusal}
 use Rattle.tb_expand.specs.declared.refusal.ExpandRefusal.TheVariants as refused
@@ -36,7 +35,7 @@ goes_start st c ds l = record {
 abbrev lists_of : List Var → List Binder → List Defined → Lists
 lists_of xs bs vs = record { variables = xs; binders = bs; values = vs }
 
-same_lists : (xs ys : List Var) (bs cs : List Binder) (vs ws : List Defined) → xs ≡ ys → bs ≡ cs → vs ≡ ws → lists_of xs bs vs ≡ lists_of ys cs ws
+pub same_lists : (xs ys : List Var) (bs cs : List Binder) (vs ws : List Defined) → xs ≡ ys → bs ≡ cs → vs ≡ ws → lists_of xs bs vs ≡ lists_of ys cs ws
 same_lists xs ys bs cs vs ws p q r = ap (λ xs. lists_of xs bs vs) p ∙ ap (λ bs. lists_of ys bs vs) q ∙ ap (λ vs. lists_of ys cs vs) r
 
 one_found : (l : Lists) (t : ℕ) (e : Definition) (f : Found) → with_found (with_one t e l) f ≡ with_found l (and_one t e f)

@@ -1,5 +1,5 @@
 -- The parts of a form are smaller than it.
-use Rattle.std.proofs.Common.{◌≡◌, refl, ℕ, ◌+◌, ◌≤◌, arith, Bool, true, false, cond, ◌==◌, Option, Some, None}
+use Rattle.std.proofs.Common.{refl, ℕ, ◌+◌, ◌-◌, ◌≤◌, arith, Bool, true, false, cond, ◌==◌, Option, Some, None}
 use Rattle.tb_prim.specs.declared.place.Place.{Place}
 use Rattle.tb_prim.specs.declared.primitive.Primitive.{Primitive}
 use Rattle.tb_prim.specs.Primitives.{arity_of}
@@ -18,6 +18,7 @@ use Rattle.tb_expand.specs.Refusals as refusal
 use Rattle.tb_expand.specs.Bodies as body
 use Rattle.tb_expand.specs.Bodies.{Kind, kind_by, kind_in, kind, begins}
 use Rattle.tb_expand.specs.Texts.{top_kind}
+use Rattle.tb_expand.specs.calls.Expanded.{Suits}
 
 -- the lists inside a datum, dotted ones apart
 abbrev mutual
@@ -42,16 +43,6 @@ abbrev mutual
 pub some_size : (d : datum.Tree) → 1 ≤ size d
 some_size (datum.At p s) = omega arith
 
--- as many operands as a node has
-abbrev pub Suits : Build → ℕ → Type 0
-Suits Choosing n = n ≡ 3
-Suits ChoosingOne n = n ≡ 2
-Suits (AssigningLocal x) n = n ≡ 1
-Suits (AssigningGlobal p g) n = n ≡ 1
-Suits (Using q) n = Unit {0}
-Suits ApplyingTo n = n ≡ 2
-Suits Calling n = 1 ≤ n
-
 -- the parts are smaller than a form of this size
 abbrev pub Fits : ℕ → Expression → Type 0
 Fits n (Wrong r) = Unit {0}
@@ -60,8 +51,8 @@ Fits n (Naming e) = Unit {0}
 Fits n (Operands k ds) = (size_all ds + 1 ≤ n) × Suits k (how_many_data ds)
 Fits n (Sequence ds) = size_all ds + 1 ≤ n
 Fits n (Procedural f b) = size_all b + 3 ≤ n
-Fits n (expr.Binding ps b) = (size_all ps.values + 1 ≤ n) × (size_all b + 3 ≤ n)
-Fits n (Recursion ps b) = (size_all ps.values + 1 ≤ n) × (size_all b + 3 ≤ n)
+Fits n (expr.Binding ps b) = size_all ps.values + (size_all b + 3) ≤ n
+Fits n (Recursion ps b) = size_all ps.values + (size_all b + 3) ≤ n
 
 -- bindings
 abbrev PairFits : ℕ → Option Pair → Type 0
@@ -98,8 +89,8 @@ pairs_more : (m n : ℕ) (ps : Option Pairs) → m ≤ n → PairsFit m ps → P
 pairs_more m n None le h = tt
 pairs_more m n (Some ps) le h = omega arith
 
-pairs_in_fit : (d : datum.Tree) → PairsFit (size d) (pairs_in (elements_of d))
-pairs_in_fit (datum.At p (datum.Proper ds)) = pairs_more (size_all ds) (1 + size_all ds) (pairs_of ds) (omega arith) (pairs_fit ds)
+pairs_in_fit : (d : datum.Tree) → PairsFit (size d - 1) (pairs_in (elements_of d))
+pairs_in_fit (datum.At p (datum.Proper ds)) = pairs_more (size_all ds) ((1 + size_all ds) - 1) (pairs_of ds) (omega arith) (pairs_fit ds)
 pairs_in_fit (datum.At p datum.Nil) = omega arith
 pairs_in_fit (datum.At p s) = tt
 
@@ -112,8 +103,8 @@ PartsFit n (Some (IfOf a b c)) = size a + (size b + size c) ≤ n
 PartsFit n (Some (ShortIfOf a b)) = size a + size b ≤ n
 PartsFit n (Some (SetOf b d)) = size d ≤ n
 PartsFit n (Some (BeginOf ds)) = size_all ds ≤ n
-PartsFit n (Some (LetOf ps b)) = (size_all ps.values ≤ n) × (size_all b + 1 ≤ n)
-PartsFit n (Some (LetrecOf ps b)) = (size_all ps.values ≤ n) × (size_all b + 1 ≤ n)
+PartsFit n (Some (LetOf ps b)) = size_all ps.values + (size_all b + 1) ≤ n
+PartsFit n (Some (LetrecOf ps b)) = size_all ps.values + (size_all b + 1) ≤ n
 PartsFit n (Some (ApplyOf f l)) = size f + size l ≤ n
 PartsFit n (Some Unbuilt) = Unit {0}
 
@@ -148,25 +139,25 @@ begin_fit : (ds : datum.Trees) → PartsFit (size_all ds) (begin_parts ds)
 begin_fit datum.none = tt
 begin_fit (datum.more d ds) = omega arith
 
-let_of_fits : (m n : ℕ) (x : Option Binder) (ps : Option Pairs) (b : datum.Trees) → m ≤ n → PairsFit m ps → size_all b + 1 ≤ n → PartsFit n (named_or x (let_of ps b))
-let_of_fits m n (Some x) ps b le h k = tt
-let_of_fits m n None None b le h k = tt
-let_of_fits m n None (Some ps) b le h k = (omega arith, k)
+let_of_fits : (m n : ℕ) (x : Option Binder) (ps : Option Pairs) (b : datum.Trees) → m + (size_all b + 1) ≤ n → PairsFit m ps → PartsFit n (named_or x (let_of ps b))
+let_of_fits m n (Some x) ps b le h = tt
+let_of_fits m n None None b le h = tt
+let_of_fits m n None (Some ps) b le h = omega arith
 
 let_fit : (ds : datum.Trees) → PartsFit (size_all ds) (let_parts ds)
 let_fit (datum.more d (datum.more b bs)) =
     let h = some_size d in
-    let_of_fits (size d) (size d + (size b + size_all bs)) (binder_of d) (pairs_in (elements_of d)) (datum.more b bs) (omega arith) (pairs_in_fit d) (omega arith)
+    let_of_fits (size d - 1) (size d + (size b + size_all bs)) (binder_of d) (pairs_in (elements_of d)) (datum.more b bs) (omega arith) (pairs_in_fit d)
 let_fit ds = tt
 
-letrec_of_fits : (m n : ℕ) (ps : Option Pairs) (b : datum.Trees) → m ≤ n → PairsFit m ps → size_all b + 1 ≤ n → PartsFit n (letrec_of ps b)
-letrec_of_fits m n None b le h k = tt
-letrec_of_fits m n (Some ps) b le h k = (omega arith, k)
+letrec_of_fits : (m n : ℕ) (ps : Option Pairs) (b : datum.Trees) → m + (size_all b + 1) ≤ n → PairsFit m ps → PartsFit n (letrec_of ps b)
+letrec_of_fits m n None b le h = tt
+letrec_of_fits m n (Some ps) b le h = omega arith
 
 letrec_fit : (ds : datum.Trees) → PartsFit (size_all ds) (letrec_parts ds)
 letrec_fit (datum.more d (datum.more b bs)) =
     let h = some_size d in
-    letrec_of_fits (size d) (size d + (size b + size_all bs)) (pairs_in (elements_of d)) (datum.more b bs) (omega arith) (pairs_in_fit d) (omega arith)
+    letrec_of_fits (size d - 1) (size d + (size b + size_all bs)) (pairs_in (elements_of d)) (datum.more b bs) (omega arith) (pairs_in_fit d)
 letrec_fit ds = tt
 
 apply_fit : (ds : datum.Trees) → PartsFit (size_all ds) (apply_parts ds)
@@ -208,8 +199,8 @@ of_parts_fits m n st c p (Some (IfOf a b d)) le h = (omega arith, refl)
 of_parts_fits m n st c p (Some (ShortIfOf a b)) le h = (omega arith, refl)
 of_parts_fits m n st c p (Some (SetOf b d)) le h = assigned_fits n b d (meaning st c b.name) (omega arith)
 of_parts_fits m n st c p (Some (BeginOf ds)) le h = omega arith
-of_parts_fits m n st c p (Some (LetOf ps b)) le h = once_fits n (bound_twice ps.binders) (expr.Binding ps b) (omega arith, omega arith)
-of_parts_fits m n st c p (Some (LetrecOf ps b)) le h = once_fits n (bound_twice ps.binders) (Recursion ps b) (omega arith, omega arith)
+of_parts_fits m n st c p (Some (LetOf ps b)) le h = once_fits n (bound_twice ps.binders) (expr.Binding ps b) (omega arith)
+of_parts_fits m n st c p (Some (LetrecOf ps b)) le h = once_fits n (bound_twice ps.binders) (Recursion ps b) (omega arith)
 of_parts_fits m n st c p (Some (ApplyOf f l)) le h = (omega arith, refl)
 of_parts_fits m n st c p (Some Unbuilt) le h = tt
 

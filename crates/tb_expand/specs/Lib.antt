@@ -12,6 +12,9 @@ pub mod Means
 pub mod Outside
 pub mod Texts
 pub mod Numbers
+pub mod Constants
+pub mod WellShaped
+pub mod Ranges
 pub mod View
 pub mod Examples
 pub mod calls

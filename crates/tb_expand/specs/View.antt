@@ -25,6 +25,8 @@ use Rattle.tb_prim.specs.declared.place.Place.{Place}
 use Rattle.tb_expand.specs.declared.context.Context.{Context}
 use Rattle.tb_expand.specs.declared.scan.Found.{Found as FoundCode}
 use Rattle.tb_expand.specs.calls.Scanned.{Lists, with_one}
+use Rattle.tb_expand.specs.declared.splitting.Bindings.{Bindings as BindingsCode}
+use Rattle.tb_expand.specs.Splits.{Bindings}
 use Rattle.tb_expand.specs.declared.definition.Kind.{Kind as KindCode}
 use Rattle.tb_expand.specs.declared.definition.Kind.TheVariants as kind
 use Rattle.tb_expand.specs.Bodies as body
@@ -254,3 +256,23 @@ pub record Defines (st : State) (c : Context) (p : Place) (es : datum.Trees) (l 
 pub record NoDefinition (p : Place) (es : datum.Trees) (r : Refusal) : Type 0 where
   pub parts : definition_of p es ≡ None
   pub refusal_is : r ≡ BadForm p
+
+-- what was found, in this scope, with these items left
+abbrev pub view_found : FoundCode → ℕ → datum.Trees → body.Found
+view_found f s ds = record {
+  variables = map view_variable f.variables.items;
+  binders = map view_binder f.binders.items;
+  values = map view_defined f.values.items;
+  scope = s;
+  rest = ds;
+}
+
+-- the name of a binder, and its variable in a scope
+abbrev pub binder_name : BinderCode → Name
+binder_name b = view_name b.name
+
+abbrev pub binder_variable : ℕ → BinderCode → Var
+binder_variable s b = record { scope = s; name = view_name b.name }
+
+abbrev pub view_bindings : BindingsCode → Bindings
+view_bindings b = record { variables = map view_variable b.variables.items; values = nodes (map view b.values.items) }

@@ -1,6 +1,12 @@
 //! Laws of the meaning of data and of texts.
 
-ghost use Rattle.std.specs.Prelude.{◌≡◌, ◌⊎◌, Bool};
+ghost use Rattle.std.specs.Prelude.{◌≡◌, ◌⊎◌, ◌+◌, ◌<◌, ℕ, [], Bool, length};
+ghost use Rattle.tb_core.specs.Rules.{Each, EachAll, Every, IsShaped, StaticsKeep, size_all, size_of_lambdas};
+ghost use Rattle.tb_core.specs.Tree.{Form, LambdaTree};
+ghost use Rattle.tb_expand.specs.Constants.{ConstantIn, HaveShort};
+ghost use Rattle.tb_expand.specs.Numbers.{nodes_of_all, program_of, statics_of_all};
+ghost use Rattle.tb_expand.specs.Ranges.{GlobalIn};
+ghost use Rattle.tb_expand.specs.WellShaped.{HaveShape};
 ghost use Rattle.tb_expand.specs.Means.{Means, Refuses};
 ghost use Rattle.tb_expand.specs.Refusals.{Refusal};
 ghost use Rattle.tb_expand.specs.declared.context.Context.{Context};
@@ -23,4 +29,48 @@ pub fn one_answer_a_text()
     ensures one_refusal { (library : Bool) (ds : datum.Trees) (r q : Refusal) → RefusesText library ds r → RefusesText library ds q → r ≡ q }
     ensures not_both { (library : Bool) (ds : datum.Trees) (es : Nodes) (r : Refusal) → MeansText library ds es → RefusesText library ds r → ⊥ }
     ensures covered { (library : Bool) (ds : datum.Trees) → ((es : Nodes) × MeansText library ds es) ⊎ ((r : Refusal) × RefusesText library ds r) }
+{}
+
+/// The static objects of nodes whose constants are short keep their rules.
+pub fn static_objects_keep_rules()
+    ensures { (es : Nodes) → HaveShort es → StaticsKeep 0 (statics_of_all [] es) }
+{}
+
+/// The constants of what a text means are short.
+pub fn constants_are_short()
+    ensures { (library : Bool) (ds : datum.Trees) (es : Nodes) → MeansText library ds es → HaveShort es }
+{}
+
+/// What a text means has the right shapes.
+pub fn texts_mean_shaped_nodes()
+    ensures { (library : Bool) (ds : datum.Trees) (es : Nodes) → MeansText library ds es → HaveShape es }
+{}
+
+/// The nodes of a numbered program have the shapes of those that it was made of.
+pub fn numbers_keep_shapes()
+    ensures forms { (library : Bool) (es : Nodes) → HaveShape es → EachAll (λ (s : ℕ) (f : Form). IsShaped f) (program_of library es).forms }
+    ensures lambdas { (library : Bool) (es : Nodes) → HaveShape es → Every (λ (l : LambdaTree). Each (λ (s : ℕ) (f : Form). IsShaped f) l.body) (program_of library es).lambdas }
+{}
+
+/// A numbered program has as many nodes as what it was made of.
+pub fn numbers_keep_nodes()
+    ensures { (library : Bool) (es : Nodes) → HaveShape es → size_all (program_of library es).forms + size_of_lambdas (program_of library es).lambdas ≡ nodes_of_all es }
+{}
+
+/// The constants of a numbered program are fixnums or name its static objects, where they are short.
+pub fn constants_are_in_range()
+    ensures forms { (library : Bool) (es : Nodes) → HaveShort es → EachAll (λ (s : ℕ) (f : Form). ConstantIn (length (program_of library es).statics) f) (program_of library es).forms }
+    ensures lambdas { (library : Bool) (es : Nodes) → HaveShort es → Every (λ (l : LambdaTree). Each (λ (s : ℕ) (f : Form). ConstantIn (length (program_of library es).statics) f) l.body) (program_of library es).lambdas }
+{}
+
+/// The numbers of the nodes of a numbered program are below the number of nodes.
+pub fn numbers_of_nodes_are_below()
+    ensures forms { (library : Bool) (es : Nodes) → EachAll (λ (s : ℕ) (f : Form). s < nodes_of_all es) (program_of library es).forms }
+    ensures lambdas { (library : Bool) (es : Nodes) → Every (λ (l : LambdaTree). Each (λ (s : ℕ) (f : Form). s < nodes_of_all es) l.body) (program_of library es).lambdas }
+{}
+
+/// The globals that the nodes of a numbered program name are in range.
+pub fn globals_are_in_range()
+    ensures forms { (library : Bool) (es : Nodes) → EachAll (λ (s : ℕ) (f : Form). GlobalIn (length (program_of library es).globals) f) (program_of library es).forms }
+    ensures lambdas { (library : Bool) (es : Nodes) → Every (λ (l : LambdaTree). Each (λ (s : ℕ) (f : Form). GlobalIn (length (program_of library es).globals) f) l.body) (program_of library es).lambdas }
 {}

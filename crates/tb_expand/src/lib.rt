@@ -1,20 +1,29 @@
 //! The expansion of data into the core language: what a datum means in an environment, and the first refusal in it.
 #![tactic(auto)]
 
+mod build;
 mod constants;
 mod context;
 mod definition;
 mod examples;
+mod expansion;
 mod expression;
 mod form;
 mod laws;
 mod limits;
 mod name;
+mod node;
+mod numbers;
+mod outside;
+mod queue;
 mod refusal;
 mod scan;
 mod shapes;
+mod splitting;
 mod state;
+mod text;
 mod tree;
+mod walks;
 
 pub use constants::{has_fixnums, node_has_fixnums};
 pub use context::Context;
@@ -24,7 +33,11 @@ pub use definition::{
 pub use examples::{worked_numbers, worked_refusals, worked_texts};
 pub use expression::{Build, Expression, Head, read_expression, read_head};
 pub use form::Form;
-pub use laws::{one_answer_a_datum, one_answer_a_text};
+pub use laws::{
+    constants_are_in_range, constants_are_short, globals_are_in_range, numbers_keep_nodes,
+    numbers_keep_shapes, numbers_of_nodes_are_below, one_answer_a_datum, one_answer_a_text,
+    static_objects_keep_rules, texts_mean_shaped_nodes,
+};
 pub use name::{Name, Variable};
 pub use refusal::ExpandRefusal;
 pub use scan::{Found, scan_items};
@@ -33,4 +46,5 @@ pub use shapes::{
     pairs_of,
 };
 pub use state::{Meaning, Scope, State, find_meaning};
+pub use text::expand_text;
 pub use tree::{Core, Node};

@@ -13,7 +13,7 @@ use tb_prim::{NoMemory, Place};
 use tb_sexp::{Datum, Node};
 
 /// The most nodes of a program.
-const MAX_NODES: usize = 1_000_000;
+pub const MAX_NODES: usize = 1_000_000;
 
 /// The most variables of a program.
 const MAX_VARIABLES: usize = 16_777_216;
@@ -106,7 +106,8 @@ fn add_symbol<'a>(state: &mut State<'a>, text: &'a [u8]) -> Result<bool, NoMemor
     Ok(true)
 }
 
-fn is_known(symbols: &[&[u8]], text: &[u8]) -> bool
+/// Whether a text is one of these.
+pub fn is_known(symbols: &[&[u8]], text: &[u8]) -> bool
     ensures { result ≡ list_any (bytes_eq text.now) (map text_of symbols.now) }
 {
     for symbol in symbols {

@@ -1,5 +1,5 @@
 -- What a scan has found so far, and what it gives.
-use Rattle.std.specs.Prelude.{◌≡◌, ◌≢◌, ℕ, List, [], ◌∷◌, ◌++◌, Option, Some, None, Result, Ok, Err}
+use Rattle.std.specs.Prelude.{◌≡◌, ◌≢◌, ℕ, List, [], ◌∷◌, ◌++◌}
 use Rattle.tb_prim.specs.declared.place.Place.{Place}
 use Rattle.tb_sexp.specs.Tree as datum
 use Rattle.tb_expand.specs.declared.context.Context.{Context}
@@ -9,7 +9,7 @@ use Rattle.tb_expand.specs.Limits.{within}
 use Rattle.tb_expand.specs.Refusals.{Refusal, BadForm}
 use Rattle.tb_expand.specs.Scopes.{State}
 use Rattle.tb_expand.specs.Shapes.{Defined, Definition}
-use Rattle.tb_expand.specs.Bodies.{Found, Scans, ScanRefuses, Kind, Expression, kind}
+use Rattle.tb_expand.specs.Bodies.{Found, Scans, ScanRefuses, Expression, kind}
 
 -- definitions found one after another
 pub record Lists : Type 0 where
