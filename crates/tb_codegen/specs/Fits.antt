@@ -1,19 +1,14 @@
 -- The limits of a program from which code is made: registers 1 to 12 hold operands, a frame has at most 1,000 slots, code
 -- has fewer than 2^24 instructions, and a character is a byte.
-use Rattle.std.specs.Prelude.{◌<◌, ◌≤◌, ◌^◌, List, [], length}
+use Rattle.std.specs.Prelude.{◌<◌, ◌≤◌, ◌^◌, length}
 use Rattle.tb_prim.specs.declared.constant.Const.{Const}
 use Rattle.tb_core.specs.Rules.{Every}
-use Rattle.tb_ir.specs.AnfTree.{Operand, Quote, Op, Call, Direct, ProcTree, AnfTree}
+use Rattle.tb_ir.specs.AnfTree.{Operand, Quote, ProcTree, AnfTree}
 use Rattle.tb_ir.specs.AnfRules.{atoms, operations}
+use Rattle.tb_ir.specs.Passed.{passed_by}
 use Rattle.tb_ir.specs.AnfWidth.{square_sum, width_of}
 use Rattle.tb_mac.specs.Rules.{PartsOk}
 use Rattle.tb_codegen.specs.PlainCode.{parts_of}
-
--- what a call passes
-abbrev pub passed_by : Op → List Operand
-passed_by (Call f ds p) = ds
-passed_by (Direct l ds) = ds
-passed_by op = []
 
 abbrev pub IsByte : Operand → Type 0
 IsByte (Quote (Const.Char c)) = c < 256

@@ -185,6 +185,11 @@ abbrev pub SameLong : Block → Type 0
 SameLong (CloseAll xs ls b) = length xs ≡ length ls
 SameLong _ = Unit {0}
 
+-- a cell is bound to a variable, and is not the value of a block
+abbrev pub EndsWithoutCell : Block → Type 0
+EndsWithoutCell (Tail (NewCell a)) = ⊥
+EndsWithoutCell _ = Unit {0}
+
 -- the rules for a block and its operation
 pub record BlockKeeps (p : AnfTree) (b : Block) : Type 0 where
   pub atoms_in_range : Every (λ op. Every (AtomKeeps p) (atoms op)) (operation b)
@@ -193,6 +198,7 @@ pub record BlockKeeps (p : AnfTree) (b : Block) : Type 0 where
   pub shaped : Every (IsShaped p) (operation b)
   pub same_long : SameLong b
   pub mark_is_bound : MarkIsBound p b
+  pub ends_without_cell : EndsWithoutCell b
 
 -- a cell is made of a variable that the same body binds by something other than a `NewCell`, its parameters
 -- among them, and that is named nowhere else

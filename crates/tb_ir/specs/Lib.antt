@@ -12,5 +12,6 @@ pub mod Width
 pub mod AnfWidth
 pub mod Rules
 pub mod AnfRules
+pub mod Passed
 pub mod View
 pub mod Examples

@@ -1,7 +1,7 @@
 -- The rules that every program with cells keeps, and every one with lambda expressions that are lifted (this
 -- project's own). They are those of the core language, read for the nodes here, with rules on cells and on
 -- lambda expressions that are lifted.
-use Rattle.std.specs.Prelude.{◌≡◌, ℕ, zero, suc, ◌+◌, ◌<◌, ◌≤◌, Bool, true, false, cond, ◌==◌, List, [], ◌∷◌, ◌++◌, length, map, Option, Some, None, slice_get}
+use Rattle.std.specs.Prelude.{◌≡◌, ℕ, zero, suc, ◌+◌, ◌<◌, ◌≤◌, Bool, true, false, cond, ◌==◌, List, [], ◌∷◌, ◌++◌, length, map, take, Option, Some, None, slice_get}
 use Rattle.tb_prim.specs.declared.constant.Const.{Const}
 use Rattle.tb_prim.specs.Primitives.{arity_of}
 use Rattle.tb_semantics.specs.Graph.{IsIn, IsApart}
@@ -193,6 +193,11 @@ other_parts (Letrec xs ls e) = more e none
 other_parts (Seq es) = es
 other_parts f = operands f
 
+-- none of these expressions makes a cell
+abbrev pub NoCell : Trees → Type 0
+NoCell none = Unit {0}
+NoCell (more e es) = (is_new_cell e ≡ false) × NoCell es
+
 -- a variable that may hold the mark is named as the operand of a `NewCell` alone
 abbrev pub MarksOfCells : ProgramTree → List ℕ → Trees → Type 0
 MarksOfCells p (x ∷ xs) (more e es) =
@@ -214,13 +219,14 @@ ReadsCells p (CellGet e) = NamesCell p e
 ReadsCells p (CellSet c e) = NamesCell p c
 ReadsCells p _ = Unit {0}
 
--- the rules for a node, whose number is below a limit
+-- the rules for a node, whose number is below a limit. A cell is made as an operand of a `let` alone.
 pub record NodeKeeps (limit : ℕ) (p : ProgramTree) (e : Tree) : Type 0 where
   pub small_site : site_of e < limit
   pub in_range : IsInRange p (form_of e)
   pub shaped : IsShaped p (form_of e)
   pub marks_are_operands : MarksAreOperands p (form_of e)
   pub reads_cells : ReadsCells p (form_of e)
+  pub cells_are_operands : NoCell (other_parts (form_of e))
 
 -- a cell is made of a variable that the same body binds by something other than a `NewCell`, its parameters
 -- among them, and that is named nowhere else
@@ -229,21 +235,28 @@ MakesCell p own (NewCell (Node q s (Local x))) = (is_in own x ≡ true) × (time
 MakesCell p own (NewCell e) = ⊥
 MakesCell p own _ = Unit {0}
 
--- the rules for a body with these parameters: it makes cells of its own variables alone, and is not the mark
+-- the rules for a body with these parameters: it makes cells of its own variables alone, and is neither the mark nor the
+-- making of a cell
 pub record BodyKeeps (p : ProgramTree) (params : List ℕ) (e : Tree) : Type 0 where
   pub makes_cells : Every (λ d. MakesCell p (params ++ of_nodes plain_binders (nodes e)) (form_of d)) (nodes e)
   pub value : is_mark e ≡ false
+  pub no_cell : is_new_cell e ≡ false
 
 abbrev pub FormsKeep : ProgramTree → Trees → Type 0
 FormsKeep p none = Unit {0}
 FormsKeep p (more e es) = BodyKeeps p [] e × FormsKeep p es
 
--- the rules for a lambda expression that is lifted: it has no rest parameter, its parameters and those that are
--- added are apart, and its body names no others
+-- the variables that the forms bind and the lambda expressions with smaller numbers than this one
+abbrev pub variables_before : ProgramTree → ℕ → List ℕ
+variables_before p l = variables (record p { lambdas = take l p.lambdas })
+
+-- the rules for a lambda expression that is lifted: it has no rest parameter, its parameters, those that are added and
+-- the variables that its body binds are apart, what is added was bound before it, and its body names no others
 pub record LiftedKeeps (p : ProgramTree) (m : Lifted) : Type 0 where
   pub in_range : m.lambda < length p.lambdas
-  pub no_rest : (l : LambdaTree) → IsLambda p m.lambda l → (l.rest ≡ None) × IsApart (l.formals ++ m.added)
-  pub added_bound : Every (λ x. is_in (variables p) x ≡ true) m.added
+  pub no_rest : (l : LambdaTree) → IsLambda p m.lambda l →
+      (l.rest ≡ None) × IsApart (l.formals ++ (m.added ++ of_nodes binders (nodes l.body)))
+  pub added_bound : Every (λ x. is_in (variables_before p m.lambda) x ≡ true) m.added
   pub closed : inner_free p m.lambda ≡ []
 
 -- the rules of a program whose nodes, numbers of nodes and variables are fewer and smaller than a limit. Each
