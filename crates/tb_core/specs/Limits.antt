@@ -4,6 +4,7 @@ use Rattle.tb_prim.specs.declared.place.Place.{Place}
 use Rattle.tb_core.specs.declared.limits.CoreRefusal.{CoreRefusal}
 use Rattle.tb_core.specs.declared.limits.Totals.{Totals}
 use Rattle.tb_core.specs.Tree.{Tree, Node, Form, Quote, Local, Global, Lambda, If, SetLocal, SetGlobal, DefGlobal, Let, Letrec, Seq, Call, PrimUse, Apply, Trees, none, more, count, LambdaTree, ProgramTree, parameters}
+use Rattle.tb_core.specs.OperandOrder.{Line}
 use Rattle.tb_core.specs.Width.{nodes}
 
 -- what a limit is set on, with its place: the operands of a call or the parameters of a lambda expression, the
@@ -113,3 +114,15 @@ IsSmall t = (t.squares ≤ 1048576) × (t.widest ≤ 1000)
 -- the first offence of a program, or the totals of its widths
 abbrev pub judge_program : ProgramTree → Result Totals CoreRefusal
 judge_program p = judge (Ok no_widths) (program_measures p)
+
+-- what is within the limits: the operands of a call, the parameters of a lambda expression, and the operands of a node
+-- that has an order, which are at most as many as a body is wide
+abbrev pub FewOperands : Form → Type 0
+FewOperands (Call f es) = count es ≤ 12
+FewOperands _ = Unit {0}
+
+abbrev pub FewParameters : LambdaTree → Type 0
+FewParameters l = length (parameters l) ≤ 12
+
+pub record IsShort (line : Line) : Type 0 where
+  pub few : length line.order ≤ 1000
