@@ -1,8 +1,8 @@
 //! Copies of the names and the static objects of a program.
 ghost use Rattle.std.specs.Prelude.{◌≡◌, IfOk};
 
+use super::{Bytes, GlobalName, NameRow, NoMemory, Row, Static, StaticRow};
 use std::alloc::Global;
-use tb_prim::{Bytes, GlobalName, NameRow, NoMemory, Row, Static, StaticRow};
 
 /// A copy of a name.
 fn copy_name(alloc: Global, name: &GlobalName) -> Result<GlobalName, NoMemory>
@@ -15,7 +15,7 @@ fn copy_name(alloc: Global, name: &GlobalName) -> Result<GlobalName, NoMemory>
 }
 
 /// A copy of these names.
-pub(crate) fn copy_names(alloc: Global, names: &[GlobalName]) -> Result<NameRow, NoMemory>
+pub fn copy_names(alloc: Global, names: &[GlobalName]) -> Result<NameRow, NoMemory>
     ensures { IfOk result (λ row. row ≡ names.now) }
 {
     let mut out = Vec::new(alloc);
@@ -41,7 +41,7 @@ fn copy_static(alloc: Global, object: &Static) -> Result<Static, NoMemory>
 }
 
 /// A copy of these static objects.
-pub(crate) fn copy_statics(alloc: Global, objects: &[Static]) -> Result<StaticRow, NoMemory>
+pub fn copy_statics(alloc: Global, objects: &[Static]) -> Result<StaticRow, NoMemory>
     ensures { IfOk result (λ row. row ≡ objects.now) }
 {
     let mut out = Vec::new(alloc);
