@@ -52,6 +52,13 @@ without-sub xs (z ∷ ys) y i =
     ])
     i
 
+pub apart-append : (xs ys : List ℕ) → IsApart xs → IsApart ys → ((x : ℕ) → IsIn x xs → IsIn x ys → ⊥) → IsApart (xs ++ ys)
+apart-append [] ys h k d = k
+apart-append (x ∷ xs) ys h k d = (
+  λ i. ⊎_elim h.0 (d x (inl refl)) (in-either x xs ys i),
+  apart-append xs ys h.1 k (λ y i. d y (inr i)),
+)
+
 in_split : {X : Type 0} (x : X) (ys : List X) → IsIn x ys → (fs : List X) × (bs : List X) × (ys ≡ fs ++ x ∷ bs)
 in_split x [] i = absurd i
 in_split x (y ∷ ys) (inl e) = ([], ys, ap (λ z. z ∷ ys) e)

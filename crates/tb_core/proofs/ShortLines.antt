@@ -9,7 +9,7 @@ use Rattle.tb_core.specs.Rules.{Every, Each, EachForm, EachAll, KeepsRules, size
 use Rattle.tb_core.specs.Width.{nodes, nodes_form, nodes_all}
 use Rattle.tb_core.specs.Limits.{FewOperands, IsShort, judge_program}
 use Rattle.tb_core.proofs.Members.{in-left, in-right, in-either, no-longer}
-use Rattle.tb_core.proofs.Lines.{line-length}
+use Rattle.tb_core.proofs.Lines.{line-apart, line-length, line-within}
 use Rattle.tb_core.proofs.WithinLimits.{NarrowForms, forms-narrow, bodies-narrow, forms-law, bodies-law, within-program}
 
 every_append : {X : Type 0} (P : X → Type 0) (xs ys : List X) → Every P xs → Every P ys → Every P (xs ++ ys)
@@ -26,6 +26,14 @@ counted (more e es) = let h = counted es in let o = own_node e in omega arith
 abbrev Fine : ℕ → Form → Type 0
 Fine s f = FewOperands f
 
+short : (a : ℕ → Bool) (p : Place) (s : ℕ) (es : Trees) → count es ≤ 1000 → IsShort (record { place = p; site = s; order = line_of a es })
+short a p s es h =
+    let l = line-length a es in record {
+      few = omega arith;
+      below = λ i j. let w = line-within a es i j in omega arith;
+      apart = line-apart a es;
+    }
+
 own_short : (a : ℕ → Bool) (p : Place) (s : ℕ) (f : Form) → Fine s f → 1 + nodes_form f ≤ 1000 → Every IsShort (own_line a p s f)
 own_short a p s (Quote c) h w = tt
 own_short a p s (Local x) h w = tt
@@ -35,16 +43,12 @@ own_short a p s (If b c d) h w = tt
 own_short a p s (SetLocal x e) h w = tt
 own_short a p s (SetGlobal g e) h w = tt
 own_short a p s (DefGlobal g e) h w = tt
-own_short a p s (Let xs es e) h w =
-    let c = counted es in let l = line-length a es in (record { few = omega arith }, tt)
+own_short a p s (Let xs es e) h w = let c = counted es in (short a p s es (omega arith), tt)
 own_short a p s (Letrec xs ls e) h w = tt
 own_short a p s (Seq es) h w = tt
-own_short a p s (Call f es) h w =
-    let l = line-length a (more f es) in (record { few = omega arith }, tt)
-own_short a p s (PrimUse q es) h w =
-    let c = counted es in let l = line-length a es in (record { few = omega arith }, tt)
-own_short a p s (Apply f l) h w =
-    let n = line-length a (more f (more l none)) in (record { few = omega arith }, tt)
+own_short a p s (Call f es) h w = (short a p s (more f es) (omega arith), tt)
+own_short a p s (PrimUse q es) h w = let c = counted es in (short a p s es (omega arith), tt)
+own_short a p s (Apply f l) h w = (short a p s (more f (more l none)) (omega arith), tt)
 
 module _ (a : ℕ → Bool) (f : ℕ → List Line) (inside : (l : ℕ) → Every IsShort (f l)) where
   short_lambdas : (ls : List ℕ) → Every IsShort (lines_of_lambdas f ls)
