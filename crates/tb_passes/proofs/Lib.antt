@@ -1,1 +1,4 @@
 pub mod Limits
+pub mod Parts
+pub mod FramedSteps
+pub mod AtTheEnd
