@@ -4,6 +4,7 @@ ghost use Rattle.tb_semantics.specs.Keeps.{Keeps};
 ghost use Rattle.tb_core.specs.OperandOrder.{Line};
 ghost use Rattle.tb_ir.specs.Measures.{anf_measured, tree_measured};
 ghost use Rattle.tb_ir.specs.Rules.{IsOrderOf, KeepsRules};
+ghost use Rattle.tb_ir.specs.AnfRules as anf_rules;
 ghost use Rattle.tb_ir.specs.AnfWidth as anf;
 ghost use Rattle.tb_ir.specs.Tree.{ProgramTree};
 ghost use Rattle.tb_ir.specs.Width as tree;
@@ -26,4 +27,9 @@ pub fn no_wider()
         anf.width_of (normal_form p order) ≤ tree.width_of p order }
     ensures square_sum { (p : ProgramTree) (order : List Line) → KeepsRules (2 ^ 31) p → IsOrderOf p order →
         anf.square_sum (normal_form p order) ≤ tree.square_sum p order }
+{}
+
+/// The normal form of a program that keeps its rules, under an order of it, keeps those of A-normal form.
+pub fn rules_keep()
+    ensures law { (p : ProgramTree) (order : List Line) → KeepsRules (2 ^ 31) p → IsOrderOf p order → anf_rules.KeepsRules (normal_form p order) }
 {}
