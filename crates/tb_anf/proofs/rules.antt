@@ -14,3 +14,4 @@ pub mod BlocksKeep
 pub mod Named
 pub mod Closed
 pub mod ProcsKeep
+pub mod Passing

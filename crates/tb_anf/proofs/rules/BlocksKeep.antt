@@ -31,11 +31,11 @@ use Rattle.tb_anf.proofs.rules.Counts.{in-times, apart-times}
 use Rattle.tb_anf.proofs.Scopes.{every-append, every-in, every-map, in-node}
 use Rattle.tb_anf.proofs.TreeParts.{parts}
 use Rattle.tb_anf.proofs.Variables.{params_of, param-at, variables-parts}
-use Rattle.tb_anf.proofs.rules.Kinds.{other-mark, cells-stay, cell-variable}
+use Rattle.tb_anf.proofs.rules.Kinds.{IsInner, inner-parts, inner-forms, inner-bodies, cells-stay, cell-variable}
 use Rattle.tb_anf.proofs.rules.Lists.{lambdas-count}
 use Rattle.tb_anf.proofs.rules.Orders.{proper-nodes}
 use Rattle.tb_anf.proofs.rules.Same.{named-same, celled-same, binders-same, times-append}
-use Rattle.tb_anf.proofs.rules.Walk.{Walks, Makes, of_quote, of_local, of_global, of_lambda, of_if, of_new_cell, of_cell_get, of_cell_set, of_set_global, of_def_global, of_nothing, of_call, of_direct, of_prim, of_apply, AllHave, AllReady, Own, whole-all}
+use Rattle.tb_anf.proofs.rules.Walk.{Walks, Makes, of_quote, of_local, of_global, of_lambda, of_if, of_new_cell, of_cell_get, of_cell_set, of_set_global, of_def_global, of_nothing, of_call, of_direct, of_prim, of_apply, AllOf, AllReady, Own, whole-all}
 
 -- as many atoms as operands
 pub atoms-count : (n : ℕ) (es : Trees) → length (atoms n es) ≡ count es
@@ -131,7 +131,7 @@ module _ (p : ProgramTree) (order : List Line) (rules : KeepsRules (2 ^ 31) p) (
   }
 
   abbrev OwnKeeps : Option ℕ → Op → Type 0
-  OwnKeeps k op = Own (BlockKeeps q) Kept IsReady k op
+  OwnKeeps k op = Own (BlockKeeps q) Kept IsInner IsReady k op
 
   plain_own : (k : Option ℕ) (op : Op) → IsPlainOp op → OpKeeps op → OwnKeeps k op
   plain_own None op i h = at_end op h (ends op i)
@@ -172,7 +172,7 @@ module _ (p : ProgramTree) (order : List Line) (rules : KeepsRules (2 ^ 31) p) (
   atom_keeps n (Node u s f) h = tt
 
   abbrev Have : Trees → Type 0
-  Have es = AllHave (BlockKeeps q) Kept IsReady es
+  Have es = AllOf Kept es
 
   atoms_keep : (n : ℕ) (es : Trees) → Have es → Every (AtomKeeps q) (atoms n es)
   atoms_keep n none h = tt
@@ -359,7 +359,7 @@ module _ (p : ProgramTree) (order : List Line) (rules : KeepsRules (2 ^ 31) p) (
   }
 
   named : (xs : List ℕ) (es : Trees) → MarksOfCells p xs es → ((y : ℕ) → IsIn y xs → y < 2 ^ 31) →
-      AllReady (BlockKeeps q) Kept IsReady xs es
+      AllReady (BlockKeeps q) Kept IsInner IsReady xs es
   named [] none h i = tt
   named [] (more e es) h i = tt
   named (y ∷ ys) none h i = tt
@@ -369,19 +369,18 @@ module _ (p : ProgramTree) (order : List Line) (rules : KeepsRules (2 ^ 31) p) (
         named ys es h.1 (λ z j. i z (inr j)),
       )
 
-  no_part : (k : Option ℕ) (e : Tree) → is_mark e ≡ false → is_new_cell e ≡ false → IsReady k e
-  no_part k e i j = (λ t. absurd cc, λ t. absurd cc)
+  no_part : (k : Option ℕ) (e : Tree) → IsInner e → IsReady k e
+  no_part k e i = let a = i.0 in let b = i.1 in (λ t. absurd cc, λ t. absurd cc)
 
-  walks : Walks (BlockKeeps q) Kept IsReady
+  walks : Walks (BlockKeeps q) Kept IsInner IsReady
   walks = record {
     own = own;
     close = close;
-    no_mark = λ u s f d. other-mark u s f d.0;
-    no_cell = λ u s f d. d.0.cells_are_operands;
+    parts_inner = λ u s f d. inner-parts u s f d.0;
     at_end = no_part None;
-    value = λ n e i j. no_part (Some (value_name n)) e i j;
+    value = λ n e i. no_part (Some (value_name n)) e i;
     named = λ u s xs es e d. named xs es d.0.marks_are_operands.0 d.1;
-    inside = λ k u s f e a i j r. no_part k e i j;
+    inside = λ k u s f e a i r. no_part k e i;
   }
 
   kept : Every Kept (all_nodes p)
@@ -396,4 +395,5 @@ module _ (p : ProgramTree) (order : List Line) (rules : KeepsRules (2 ^ 31) p) (
       rules.nodes (in-node K.binders (all_nodes p))
 
   pub blocks-keep : Every (BlockKeeps q) (all_blocks q)
-  blocks-keep = whole-all (BlockKeeps q) Kept IsReady walks p order kept rules.forms rules.bodies
+  blocks-keep = whole-all (BlockKeeps q) Kept IsInner IsReady walks p order kept
+      (inner-forms p p.forms rules.forms) (inner-bodies p p.lambdas rules.bodies)

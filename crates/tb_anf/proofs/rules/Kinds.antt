@@ -11,18 +11,19 @@ use Rattle.tb_ir.specs.AnfRules.{all_blocks, blocks, of_each}
 use Rattle.tb_ir.specs.AnfTree as A
 use Rattle.tb_ir.specs.AnfTree.{Block, Op}
 use Rattle.tb_ir.specs.Rules as K
-use Rattle.tb_ir.specs.Rules.{all_nodes, nodes, of_nodes, of_kind, form_of, times, is_mark, NoMark, NoCell, other_parts, NodeKeeps, KeepsRules, IsOrderOf}
-use Rattle.tb_ir.specs.Tree.{Tree, Node, Form, Let, Letrec, Seq, Trees, none, more, count, ProgramTree}
+use Rattle.tb_ir.specs.Rules.{all_nodes, nodes, of_nodes, of_kind, form_of, times, is_mark, NoMark, NoCell, other_parts, BodyKeeps, FormsKeep, NodeKeeps, KeepsRules, IsOrderOf}
+use Rattle.tb_ir.specs.Tree.{Tree, Node, Form, Let, Letrec, Seq, Trees, none, more, count, LambdaTree, ProgramTree}
+use Rattle.tb_ir.specs.FreeVariables.{parameters}
 use Rattle.tb_ir.specs.TreeMachine.{line_of}
 use Rattle.tb_ir.specs.Width.{is_new_cell}
 use Rattle.tb_anf.specs.NormalForm.{AtEnd, block_of, normal_form}
 use Rattle.tb_anf.proofs.Bodies.{every-zip}
-use Rattle.tb_anf.proofs.Scopes.{in-node}
+use Rattle.tb_anf.proofs.Scopes.{every-map, in-node}
 use Rattle.tb_anf.proofs.TreeParts.{parts}
 use Rattle.tb_anf.proofs.rules.Counts.{in-times, times-in, apart-times, one_if}
 use Rattle.tb_anf.proofs.rules.Orders.{proper-nodes}
 use Rattle.tb_anf.proofs.rules.Same.{times-append, body-binders, binders-same}
-use Rattle.tb_anf.proofs.rules.Walk.{Walks, Makes, of_new_cell, IsAround, AllHave, AllReady, Own, body-all, whole-all}
+use Rattle.tb_anf.proofs.rules.Walk.{Walks, AllOf, Makes, of_new_cell, IsAround, AllReady, Own, body-all, whole-all}
 
 -- the variables that a node or a block binds to a new cell, or otherwise
 abbrev pub node_kind : Bool → Form → List ℕ
@@ -33,10 +34,28 @@ abbrev pub block_kind : Bool → Block → List ℕ
 block_kind true b = N.cell_binders b
 block_kind false b = N.plain_binders b
 
--- neither the mark nor a cell stands where a part is no operand of a `let`
-pub other-mark : {limit : ℕ} {p : ProgramTree} (q : Place) (s : ℕ) (f : Form) → NodeKeeps limit p (Node q s f) → NoMark (other_parts f)
-other-mark q s (Let xs es e) h = (h.marks_are_operands.1, tt)
-other-mark q s f h = h.marks_are_operands
+-- an expression that is neither the mark nor the making of a cell
+abbrev pub IsInner : Tree → Type 0
+IsInner e = (is_mark e ≡ false) × (is_new_cell e ≡ false)
+
+all_inner : (es : Trees) → NoMark es → NoCell es → AllOf IsInner es
+all_inner none i j = tt
+all_inner (more e es) i j = ((i.0, j.0), all_inner es i.1 j.1)
+
+-- so are the parts of a node that are not operands of a `let`, the forms and the bodies
+pub inner-parts : {limit : ℕ} {p : ProgramTree}
+    (q : Place) (s : ℕ) (f : Form) → NodeKeeps limit p (Node q s f) → AllOf IsInner (other_parts f)
+inner-parts q s (Let xs es e) h = ((h.marks_are_operands.1, h.cells_are_operands.0), tt)
+inner-parts q s f h = all_inner (other_parts f) h.marks_are_operands h.cells_are_operands
+
+pub inner-forms : (p : ProgramTree) (es : Trees) →
+    FormsKeep p es → AllOf IsInner es
+inner-forms p none h = tt
+inner-forms p (more e es) h = ((h.0.value, h.0.no_cell), inner-forms p es h.1)
+
+pub inner-bodies : (p : ProgramTree) (ms : List LambdaTree) → Every (λ (m : LambdaTree). BodyKeeps p (parameters m) m.body) ms →
+    Every (λ (m : LambdaTree). IsInner m.body) ms
+inner-bodies p ms h = every-map _ _ ms (λ m b. (b.value, b.no_cell)) h
 
 module _ (z : ℕ) (small : z < 2 ^ 31) (want : Bool) where
   -- the operands of a `let` that are bound to this variable
@@ -67,7 +86,7 @@ module _ (z : ℕ) (small : z < 2 ^ 31) (want : Bool) where
   kind_bound false y op b p s f m r q = inl q
 
   kind_own : (p : ProgramTree) (k : Option ℕ) (q : Place) (s : ℕ) (f : Form) (op : Op) → Makes q f op → Kept p (Node q s f) →
-      AllHave IsKind (Kept p) IsReady (parts f) → IsReady k (Node q s f) → Own IsKind (Kept p) IsReady k op
+      AllOf (Kept p) (parts f) → IsReady k (Node q s f) → Own IsKind (Kept p) IsInner IsReady k op
   kind_own p None q s f op m d h r = λ i. absurd i
   kind_own p (Some y) q s f op m d h r = λ b i. ⊎_elim (kind_bound want y op b q s f m r) (λ j. absurd j) i
 
@@ -76,28 +95,26 @@ module _ (z : ℕ) (small : z < 2 ^ 31) (want : Bool) where
   kind_close true xs ls b h i = absurd (h refl i)
   kind_close false xs ls b h i = i
 
-  all_ready : (p : ProgramTree) (xs : List ℕ) (es : Trees) → AllKind xs es → AllReady IsKind (Kept p) IsReady xs es
+  all_ready : (p : ProgramTree) (xs : List ℕ) (es : Trees) → AllKind xs es → AllReady IsKind (Kept p) IsInner IsReady xs es
   all_ready p [] none h = tt
   all_ready p [] (more e es) h = tt
   all_ready p (y ∷ ys) none h = tt
   all_ready p (y ∷ ys) (more e es) h = (h.0, all_ready p ys es h.1)
 
-  within : (k : Option ℕ) (p : Place) (s : ℕ) (f : Form) (e : Tree) → IsAround f → is_mark e ≡ false →
-      is_new_cell e ≡ false → IsReady k (Node p s f) → IsReady k e
-  within None p s f e a i j r = tt
-  within (Some y) p s (Let xs es d) e a i j r = λ q. j ∙ r q
-  within (Some y) p s (Letrec xs ls d) e a i j r = λ q. j ∙ r q
-  within (Some y) p s (Seq es) e a i j r = λ q. j ∙ r q
-  within (Some y) p s f e a i j r = absurd a
+  within : (k : Option ℕ) (p : Place) (s : ℕ) (f : Form) (e : Tree) → IsAround f → IsInner e → IsReady k (Node p s f) → IsReady k e
+  within None p s f e a i r = tt
+  within (Some y) p s (Let xs es d) e a i r = λ q. i.1 ∙ r q
+  within (Some y) p s (Letrec xs ls d) e a i r = λ q. i.1 ∙ r q
+  within (Some y) p s (Seq es) e a i r = λ q. i.1 ∙ r q
+  within (Some y) p s f e a i r = absurd a
 
-  kind_walks : (p : ProgramTree) → Walks IsKind (Kept p) IsReady
+  kind_walks : (p : ProgramTree) → Walks IsKind (Kept p) IsInner IsReady
   kind_walks p = record {
     own = kind_own p;
     close = λ q s xs ls e d b i. kind_close want xs ls b d.1 i;
-    no_mark = λ q s f d. other-mark q s f d.0;
-    no_cell = λ q s f d. d.0.cells_are_operands;
-    at_end = λ e i j. tt;
-    value = λ n e i j q. absurd (omega arith);
+    parts_inner = λ q s f d. inner-parts q s f d.0;
+    at_end = λ e i. tt;
+    value = λ n e i q. absurd (omega arith);
     named = λ q s xs es e d. all_ready p xs es d.1;
     inside = within;
   }
@@ -202,8 +219,8 @@ module _ (p : ProgramTree) (order : List Line) (rules : KeepsRules (2 ^ 31) p) (
       let same = binders-same z small p order (proper-nodes p order rules lines) in
       let there = kind_bound_there z true i in
       kinds_in z small true (all_blocks (normal_form p order))
-      (whole-all (IsKind z small true) (Kept z small true p) (IsReady z small true) (kind_walks z small true p) p order
-      (kept z small true i) rules.forms rules.bodies)
+      (whole-all (IsKind z small true) (Kept z small true p) IsInner (IsReady z small true) (kind_walks z small true p) p order
+      (kept z small true i) (inner-forms p p.forms rules.forms) (inner-bodies p p.lambdas rules.bodies))
       (times-in z _ (omega arith))
 
   -- what nodes have that are among those of the program, the program has
@@ -226,8 +243,8 @@ module _ (p : ProgramTree) (order : List Line) (rules : KeepsRules (2 ^ 31) p) (
         let both = nodes_both z (2 ^ 31) p (nodes e) (inside _ rules.nodes) in
         let whole = members-all K.plain_binders (all_nodes p) (nodes e) z (inside _ (in-node K.plain_binders (all_nodes p))) i in
         kinds_in z small false (blocks (block_of (line_of order) n e AtEnd))
-        (body-all (IsKind z small false) (Kept z small false p) (IsReady z small false) (kind_walks z small false p)
-        (line_of order) n e (inside _ (kept z small false whole)) value no_cell)
+        (body-all (IsKind z small false) (Kept z small false p) IsInner (IsReady z small false) (kind_walks z small false p)
+        (line_of order) n e (inside _ (kept z small false whole)) (value, no_cell))
         (times-in z _ (omega arith))
 
 -- a variable that is bound to a cell is one of the program

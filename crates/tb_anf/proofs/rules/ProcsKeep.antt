@@ -34,17 +34,17 @@ use Rattle.tb_anf.proofs.Variables.{parameter-variable, no-parameter, params-onc
 use Rattle.tb_anf.proofs.rules.Bound.{bound-once}
 use Rattle.tb_anf.proofs.rules.Closed.{BoundBefore, added-before, bound-before, before-small, before-other, lifted-entry}
 use Rattle.tb_anf.proofs.rules.Counts.{in-times, times-in}
-use Rattle.tb_anf.proofs.rules.Kinds.{other-mark, plain-binder, plain-stay, members-all}
+use Rattle.tb_anf.proofs.rules.Kinds.{IsInner, inner-parts, plain-binder, plain-stay, members-all}
 use Rattle.tb_anf.proofs.rules.Named.{body-names}
 use Rattle.tb_anf.proofs.rules.Orders.{proper-nodes}
 use Rattle.tb_anf.proofs.rules.Same.{body-binders, body-standing, named-same}
-use Rattle.tb_anf.proofs.rules.Walk.{Walks, Makes, of_new_cell, AllHave, AllReady, Own, body-all}
+use Rattle.tb_anf.proofs.rules.Walk.{Walks, Makes, of_new_cell, AllOf, AllReady, Own, body-all}
 
 pub every-from : {X : Type 0} (P : X → Type 0) (xs : List X) → ((x : X) → IsIn x xs → P x) → Every P xs
 every-from P [] h = tt
 every-from P (x ∷ xs) h = (h x (inl refl), every-from P xs (λ y i. h y (inr i)))
 
-each-every : {X Y : Type 0} (P : Y → Type 0) (has : X → List Y) (xs : List X) → Every (λ x. Every P (has x)) xs →
+pub each-every : {X Y : Type 0} (P : Y → Type 0) (has : X → List Y) (xs : List X) → Every (λ x. Every P (has x)) xs →
     Every P (of_each has xs)
 each-every P has [] h = tt
 each-every P has (x ∷ xs) h = every-append P (has x) _ h.0 (each-every P has xs h.1)
@@ -73,33 +73,32 @@ module _ (p : ProgramTree) (order : List Line) (rules : KeepsRules (2 ^ 31) p) (
     makes u s f op m h = tt
 
     makes_own : (k : Option ℕ) (u : Place) (s : ℕ) (f : Form) (op : Op) → Makes u f op → Kept (Node u s f) →
-        AllHave MakesCells Kept IsReady (parts f) → IsReady k (Node u s f) → Own MakesCells Kept IsReady k op
+        AllOf Kept (parts f) → IsReady k (Node u s f) → Own MakesCells Kept IsInner IsReady k op
     makes_own None u s f op m d h r = (makes u s f op m d.1, tt)
     makes_own (Some y) u s f op m d h r = λ b. (makes u s f op m d.1, tt)
 
-    all_ready : (xs : List ℕ) (es : Trees) → AllReady MakesCells Kept IsReady xs es
+    all_ready : (xs : List ℕ) (es : Trees) → AllReady MakesCells Kept IsInner IsReady xs es
     all_ready [] none = tt
     all_ready [] (more e es) = tt
     all_ready (y ∷ ys) none = tt
     all_ready (y ∷ ys) (more e es) = (tt, all_ready ys es)
 
-    makes_walks : Walks MakesCells Kept IsReady
+    makes_walks : Walks MakesCells Kept IsInner IsReady
     makes_walks = record {
       own = makes_own;
       close = λ u s xs ls e d b. tt;
-      no_mark = λ u s f d. other-mark u s f d.0;
-      no_cell = λ u s f d. d.0.cells_are_operands;
-      at_end = λ e i j. tt;
-      value = λ n e i j. tt;
+      parts_inner = λ u s f d. inner-parts u s f d.0;
+      at_end = λ e i. tt;
+      value = λ n e i. tt;
       named = λ u s xs es e d. all_ready xs es;
-      inside = λ k u s f e a i j r. tt;
+      inside = λ k u s f e a i r. tt;
     }
 
     body_makes : (n : ℕ) (e : Tree) → Every Kept (nodes e) → is_mark e ≡ false → is_new_cell e ≡ false →
         Every (N.MakesCell q target) (of_each operation (blocks (block_of (line_of order) n e AtEnd)))
     body_makes n e h i j =
         each-every (N.MakesCell q target) operation (blocks (block_of (line_of order) n e AtEnd))
-        (body-all MakesCells Kept IsReady makes_walks (line_of order) n e h i j)
+        (body-all MakesCells Kept IsInner IsReady makes_walks (line_of order) n e h (i, j))
 
 module _ (p : ProgramTree) (order : List Line) (rules : KeepsRules (2 ^ 31) p) (lines : IsOrderOf p order) where
   abbrev x : Context
