@@ -1,4 +1,5 @@
 pub mod NormalForm
 pub mod Wider
+pub mod Constants
 pub mod Examples
 pub mod calls
