@@ -1,14 +1,9 @@
--- The constants that stand in nodes and in operations.
+-- The constants that stand in operations.
 use Rattle.std.specs.Prelude.{List, [], ◌∷◌}
 use Rattle.tb_prim.specs.declared.constant.Const.{Const}
 use Rattle.tb_ir.specs.AnfRules.{atoms, of_each}
 use Rattle.tb_ir.specs.AnfTree.{Operand, Quote, Op}
-use Rattle.tb_ir.specs.Tree as tree
-
--- the constant that a node is
-abbrev pub quoted : tree.Form → List Const
-quoted (tree.Quote c) = c ∷ []
-quoted f = []
+pub use Rattle.tb_ir.specs.Passed.{quoted}
 
 -- the constant that an atom is, and those that are atoms of an operation
 abbrev pub constant : Operand → List Const
