@@ -1,12 +1,12 @@
 -- A step of the framed machine emits at most one event, and a machine that is full stays as it is.
-use Rattle.std.proofs.Common.{◌≡◌, refl, sym, append-nil, lit≤, ℕ, List, [], ◌∷◌, ◌++◌, IsTrue, false}
+use Rattle.std.proofs.Common.{refl, sym, append-nil, lit≤, ℕ, List, [], ◌∷◌, ◌++◌, IsTrue, false}
 use Rattle.tb_prim.specs.declared.event.Event.{Event}
 use Rattle.tb_prim.specs.declared.event.Stop.{Stop}
 use Rattle.tb_semantics.specs.Keeps.{IsStillWhenFull}
 use Rattle.tb_semantics.specs.Runs.{Appends, EmitsInOrder}
 use Rattle.tb_mac.specs.Assembled.{Assembled}
 use Rattle.tb_mac.specs.Frames.{AsksAhead, AsksNext, Continues, Ends, Framed, FramedOutcome, Shows, framed_fetched}
-use Rattle.tb_mac.specs.FramedRuns.{FramedState, Runs, Stays, framed_after, framed_events, framed_machine, measured_machine}
+use Rattle.tb_mac.specs.FramedRuns.{Runs, Stays, framed_after, framed_events, framed_machine, measured_machine}
 use Rattle.tb_mac.specs.MacEvents.{with_stop}
 
 nothing : (es : List Event) → Appends es es

@@ -1,5 +1,5 @@
 -- What code refers to keeps the rules of code.
-use Rattle.std.proofs.Common.{◌≡◌, refl, sym, ap, ◌∙◌, subst, ℕ, zero, suc, ◌+◌, ◌*◌, ◌^◌, ◌<◌, ◌≤◌, ◌≢◌, inl, inr, arith, List, [], ◌∷◌, All, AllPairs, length, map, Option, None, Some, slice_get, slice_index, IfSome}
+use Rattle.std.proofs.Common.{◌≡◌, refl, sym, ap, subst, ℕ, zero, suc, ◌+◌, ◌<◌, ◌≤◌, ◌≢◌, inl, inr, arith, List, [], ◌∷◌, All, AllPairs, length, Option, None, Some, slice_get, slice_index, IfSome}
 use Rattle.std.specs.Option.{option_map}
 use Rattle.std.proofs.lemmas.List.{length-map}
 use Rattle.std.proofs.lemmas.List.Elements.{All-cons, All-map}
@@ -13,7 +13,7 @@ use Rattle.tb_core.specs.Rules.{Every, PartKeeps, StaticKeeps, StaticsKeep}
 use Rattle.tb_ir.specs.AnfTree.{AnfTree, ProcTree}
 use Rattle.tb_ir.specs.AnfRules.{lambdas_of}
 use Rattle.tb_mac.specs.Layout.{addresses_from, static_size, static_tag, statics_size}
-use Rattle.tb_mac.specs.Rules.{ConstOk, NameOk, OrderOk, PartsOk, StaticAtOk, StaticOk, tag_at}
+use Rattle.tb_mac.specs.Rules.{ConstOk, NameOk, OrderOk, PartsOk, StaticAtOk, StaticOk}
 use Rattle.tb_mac.specs.Words.{on_some}
 use Rattle.tb_codegen.specs.PlainCode.{entries, order_entry, parts_of}
 
@@ -29,7 +29,7 @@ from_in P [] f = none P
 from_in P (x ∷ xs) f = All-cons P x xs (f x (inl refl)) (from_in P xs (λ y i. f y (inr i)))
 
 from_apart : (xs : List ℕ) → IsApart xs → AllPairs ◌≢◌ xs
-from_apart [] h i j d a b = absurd (omega arith)
+from_apart [] h = λ i j d a b. absurd (omega arith)
 from_apart (x ∷ xs) h =
     AllPairs-cons ◌≢◌ x xs (from_in (λ y. x ≢ y) xs (λ y i e. h.0 (subst (λ z. IsIn z xs) (sym e) i))) (from_apart xs h.1)
 

@@ -56,11 +56,11 @@ pub fn code_keeps_the_reference_machine()
 pub fn code_stands_still_at_the_end()
     ensures law { (p : ProgramTree) → IsCompilable p → (heap : ℕ) (input : List ℕ) (n : ℕ) →
         (framed_machine (program_code p) heap input).step (after (framed_machine (program_code p) heap input) n)
-            ≡ after (framed_machine (program_code p) heap input) n →
+        ≡ after (framed_machine (program_code p) heap input) n →
         framed_full (after (framed_machine (program_code p) heap input) n) ≡ false →
         (m : ℕ) × HasStopped (after (reference p (order_of p) input) m)
-            × (framed_events (after (framed_machine (program_code p) heap input) n)
-                ≡ events_of (after (reference p (order_of p) input) m)) }
+        × (framed_events (after (framed_machine (program_code p) heap input) n)
+        ≡ events_of (after (reference p (order_of p) input) m)) }
 {
     code_keeps_the_reference_machine();
     tb_core::laws::all_events_end();

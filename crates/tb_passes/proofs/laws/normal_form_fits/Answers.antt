@@ -1,9 +1,9 @@
-use Rattle.std.proofs.Common.{◌≡◌, ◌^◌, ◌≤◌, refl, lit≤, subst, arith}
+use Rattle.std.proofs.Common.{◌^◌, ◌≤◌, refl, lit≤, subst, arith}
 use Rattle.tb_core.specs.OperandOrder.{order_of}
 use Rattle.tb_core.specs.Tree.{ProgramTree}
 use Rattle.tb_core.specs.Width as core
 use Rattle.tb_core.specs.Width.{largest, squares}
-use Rattle.tb_ir.specs.AnfRules.{lambdas_of, operations}
+use Rattle.tb_ir.specs.AnfRules.{operations}
 use Rattle.tb_ir.specs.AnfWidth.{square_sum, width_of}
 use Rattle.tb_ir.specs.Rules.{KeepsRules}
 use Rattle.tb_assign.specs.Eliminate.{cells_of}
@@ -17,13 +17,13 @@ use Rattle.tb_passes.proofs.laws.normal_form_fits.Goals as goal
 pub returns : goal.returns
 returns c =
     let cells_rules : (p : ProgramTree) → IsCompilable p → KeepsRules (2 ^ 31) (cells_of p) =
-        λ p ok. rules-more (2 ^ 27) (2 ^ 31) (cells_of p) (lit≤ tt) (c.rules_keep.ensures.rules p ok.rules) in
+    λ p ok. rules-more (2 ^ 27) (2 ^ 31) (cells_of p) (lit≤ tt) (c.rules_keep.ensures.rules p ok.rules) in
     let width : (p : ProgramTree) → IsCompilable p → width_of (anf_of p) ≤ core.width_of p = λ p ok.
-        subst (λ ns. width_of (anf_of p) ≤ largest ns) (c.widths_stay.ensures.law p ok.rules)
-        (c.no_wider.ensures.width (cells_of p) (order_of p) (cells_rules p ok) (c.rules_keep.ensures.is_order p ok.rules)) in
+    subst (λ ns. width_of (anf_of p) ≤ largest ns) (c.widths_stay.ensures.law p ok.rules)
+    (c.no_wider.ensures.width (cells_of p) (order_of p) (cells_rules p ok) (c.rules_keep.ensures.is_order p ok.rules)) in
     let sum : (p : ProgramTree) → IsCompilable p → square_sum (anf_of p) ≤ core.square_sum p = λ p ok.
-        subst (λ ns. square_sum (anf_of p) ≤ squares ns) (c.widths_stay.ensures.law p ok.rules)
-        (c.no_wider.ensures.square_sum (cells_of p) (order_of p) (cells_rules p ok) (c.rules_keep.ensures.is_order p ok.rules)) in
+    subst (λ ns. square_sum (anf_of p) ≤ squares ns) (c.widths_stay.ensures.law p ok.rules)
+    (c.no_wider.ensures.square_sum (cells_of p) (order_of p) (cells_rules p ok) (c.rules_keep.ensures.is_order p ok.rules)) in
     record {
       rules = λ p ok. c.rules_keep-2.ensures.law (cells_of p) (order_of p) (cells_rules p ok) (c.rules_keep.ensures.is_order p ok.rules);
       fits = λ p ok.
