@@ -29,3 +29,7 @@ pub mod Scanning
 pub mod Tables
 pub mod Placing
 pub mod Numbering
+pub mod Times
+pub mod StandingNumbers
+pub mod LambdaLookups
+pub mod SitesApart

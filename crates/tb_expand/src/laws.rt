@@ -1,7 +1,10 @@
 //! Laws of the meaning of data and of texts.
 
-ghost use Rattle.std.specs.Prelude.{◌≡◌, ◌⊎◌, ◌+◌, ◌<◌, ℕ, [], Bool, length};
-ghost use Rattle.tb_core.specs.Rules.{Each, EachAll, Every, IsShaped, StaticsKeep, size_all, size_of_lambdas};
+ghost use Rattle.std.specs.Prelude.{◌≡◌, ◌⊎◌, ◌+◌, ◌<◌, ℕ, [], Bool, length, map, true};
+ghost use Rattle.tb_core.specs.FreeVariables.{is_in};
+ghost use Rattle.tb_semantics.specs.Graph.{IsApart};
+ghost use Rattle.tb_core.specs.OperandOrder.{Line, order_of};
+ghost use Rattle.tb_core.specs.Rules.{Each, EachAll, Every, InnerAreGreater, IsShaped, standing, StaticsKeep, size_all, size_of_lambdas};
 ghost use Rattle.tb_core.specs.Tree.{Form, LambdaTree};
 ghost use Rattle.tb_expand.specs.Constants.{ConstantIn, HaveShort};
 ghost use Rattle.tb_expand.specs.Numbers.{nodes_of_all, program_of, statics_of_all};
@@ -73,4 +76,16 @@ pub fn numbers_of_nodes_are_below()
 pub fn globals_are_in_range()
     ensures forms { (library : Bool) (es : Nodes) → EachAll (λ (s : ℕ) (f : Form). GlobalIn (length (program_of library es).globals) f) (program_of library es).forms }
     ensures lambdas { (library : Bool) (es : Nodes) → Every (λ (l : LambdaTree). Each (λ (s : ℕ) (f : Form). GlobalIn (length (program_of library es).globals) f) l.body) (program_of library es).lambdas }
+{}
+
+/// Each lambda expression of a numbered program stands at one node, and those inside another have greater numbers.
+pub fn lambdas_stand_once()
+    ensures at_most { (library : Bool) (es : Nodes) → HaveShape es → IsApart (standing (program_of library es)) }
+    ensures at_least { (library : Bool) (es : Nodes) → HaveShape es → (l : ℕ) → l < length (program_of library es).lambdas → is_in (standing (program_of library es)) l ≡ true }
+    ensures inner_greater { (library : Bool) (es : Nodes) → InnerAreGreater 0 (program_of library es).lambdas }
+{}
+
+/// The nodes of a numbered program that have an order have different numbers.
+pub fn sites_are_apart()
+    ensures { (library : Bool) (es : Nodes) → HaveShape es → IsApart (map (λ (l : Line). l.site) (order_of (program_of library es))) }
 {}
