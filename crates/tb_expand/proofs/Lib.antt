@@ -33,3 +33,5 @@ pub mod Times
 pub mod StandingNumbers
 pub mod LambdaLookups
 pub mod SitesApart
+pub mod FirstOccurrences
+pub mod FreeNumbers

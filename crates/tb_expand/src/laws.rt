@@ -1,7 +1,7 @@
 //! Laws of the meaning of data and of texts.
 
 ghost use Rattle.std.specs.Prelude.{◌≡◌, ◌⊎◌, ◌+◌, ◌<◌, ℕ, [], Bool, length, map, true};
-ghost use Rattle.tb_core.specs.FreeVariables.{is_in};
+ghost use Rattle.tb_core.specs.FreeVariables.{free_all, inner_free, is_in};
 ghost use Rattle.tb_semantics.specs.Graph.{IsApart};
 ghost use Rattle.tb_core.specs.OperandOrder.{Line, order_of};
 ghost use Rattle.tb_core.specs.Rules.{Each, EachAll, Every, InnerAreGreater, IsShaped, standing, StaticsKeep, size_all, size_of_lambdas};
@@ -9,6 +9,7 @@ ghost use Rattle.tb_core.specs.Tree.{Form, LambdaTree};
 ghost use Rattle.tb_expand.specs.Constants.{ConstantIn, HaveShort};
 ghost use Rattle.tb_expand.specs.Numbers.{nodes_of_all, program_of, statics_of_all};
 ghost use Rattle.tb_expand.specs.Ranges.{GlobalIn};
+ghost use Rattle.tb_expand.specs.Closed.{AreClosed};
 ghost use Rattle.tb_expand.specs.WellShaped.{HaveShape};
 ghost use Rattle.tb_expand.specs.Means.{Means, Refuses};
 ghost use Rattle.tb_expand.specs.Refusals.{Refusal};
@@ -88,4 +89,9 @@ pub fn lambdas_stand_once()
 /// The nodes of a numbered program that have an order have different numbers.
 pub fn sites_are_apart()
     ensures { (library : Bool) (es : Nodes) → HaveShape es → IsApart (map (λ (l : Line). l.site) (order_of (program_of library es))) }
+{}
+
+/// A numbered program of nodes that name only variables of their scopes has no free variables.
+pub fn closed_nodes_have_no_free_variables()
+    ensures { (library : Bool) (es : Nodes) → HaveShape es → AreClosed [] es → free_all (inner_free (program_of library es)) (program_of library es).forms ≡ [] }
 {}
