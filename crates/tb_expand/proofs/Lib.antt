@@ -35,3 +35,5 @@ pub mod LambdaLookups
 pub mod SitesApart
 pub mod FirstOccurrences
 pub mod FreeNumbers
+pub mod NamedVariables
+pub mod BoundNumbers

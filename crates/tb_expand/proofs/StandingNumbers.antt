@@ -11,7 +11,8 @@ use Rattle.tb_expand.specs.Trees.{Node, At, Core, Constant, Unspecified, Undefin
 use Rattle.tb_expand.specs.Numbers.{Tables, Before, closures, closures_in, closures_of_all, lambda_numbers, behind_node, behind_nodes, behind_values, one_node, one_closure, numbered, numbered_in, numbered_all, lambdas_of, lambdas_in, lambdas_of_all, lambdas_of_values, tables_of, none_before, program_of}
 use Rattle.tb_expand.specs.WellShaped.{AreLambdas, HasShape, HasShapeIn, HaveShape}
 use Rattle.tb_expand.proofs.ShapedNumbers.{every_joined}
-use Rattle.tb_expand.proofs.Times.{one_if, times, times_joined, is_number, times_apart, times_in, past, past_here, past_none, past_below, past_least}
+use Rattle.tb_expand.specs.Closed.{one_if, times}
+use Rattle.tb_expand.proofs.Times.{times_joined, is_number, times_apart, times_in, past, past_here, past_none, past_below, past_least}
 
 -- the lambda expression of a value
 pub value_inner : (t : Tables) (b : Before) (p : Place) (c : Core) → is_lambda (At p c) ≡ true → inner_form (numbered_in t b c) ≡ b.closures ∷ []

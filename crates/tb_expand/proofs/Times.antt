@@ -4,13 +4,7 @@ use Rattle.std.specs.List.{list_any}
 use Rattle.std.proofs.lemmas.Bool.{cases_lt, ne_eqb, le-leb, lt-leb}
 use Rattle.tb_semantics.specs.Graph.{IsIn, IsApart}
 use Rattle.tb_core.specs.FreeVariables.{is_in}
-
-abbrev pub one_if : Bool → ℕ
-one_if b = cond b 1 0
-
-abbrev pub times : {X : Type 0} → (X → Bool) → List X → ℕ
-times test [] = 0
-times test (x ∷ xs) = one_if (test x) + times test xs
+use Rattle.tb_expand.specs.Closed.{one_if, times}
 
 pub times_joined : {X : Type 0} (test : X → Bool) (xs ys : List X) → times test (xs ++ ys) ≡ times test xs + times test ys
 times_joined test [] ys = omega arith

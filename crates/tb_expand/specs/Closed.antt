@@ -1,5 +1,5 @@
 -- The variables that a node binds, and nodes that name only variables of their scopes.
-use Rattle.std.specs.Prelude.{◌≡◌, Bool, true, List, [], ◌∷◌, ◌++◌}
+use Rattle.std.specs.Prelude.{◌≡◌, ℕ, ◌+◌, Bool, true, cond, List, [], ◌∷◌, ◌++◌}
 use Rattle.std.specs.List.{list_any}
 use Rattle.tb_expand.specs.Shapes.{option_list}
 use Rattle.tb_expand.specs.Trees.{Var, same_var, Node, At, Core, Constant, Unspecified, Undefined, Local, Global, Lambda, If, SetLocal, SetGlobal, DefGlobal, Let, Letrec, Seq, Call, PrimUse, Apply, Nodes, nil, cons}
@@ -61,3 +61,11 @@ abbrev mutual
   pub AreClosed : List Var → Nodes → Type 0
   AreClosed xs nil = Unit {0}
   AreClosed xs (cons e es) = IsClosed xs e × AreClosed xs es
+
+-- how many elements of a list pass a test
+abbrev pub one_if : Bool → ℕ
+one_if b = cond b 1 0
+
+abbrev pub times : {X : Type 0} → (X → Bool) → List X → ℕ
+times test [] = 0
+times test (x ∷ xs) = one_if (test x) + times test xs

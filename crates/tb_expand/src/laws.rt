@@ -1,22 +1,23 @@
 //! Laws of the meaning of data and of texts.
 
-ghost use Rattle.std.specs.Prelude.{◌≡◌, ◌⊎◌, ◌+◌, ◌<◌, ℕ, [], Bool, length, map, true};
+ghost use Rattle.std.specs.Prelude.{◌≡◌, ◌⊎◌, ◌+◌, ◌<◌, ◌≤◌, ◌^◌, ℕ, [], Bool, length, map, true};
 ghost use Rattle.tb_core.specs.FreeVariables.{free_all, inner_free, is_in};
 ghost use Rattle.tb_semantics.specs.Graph.{IsApart};
 ghost use Rattle.tb_core.specs.OperandOrder.{Line, order_of};
+ghost use Rattle.tb_core.specs.Variables.{variables};
 ghost use Rattle.tb_core.specs.Rules.{Each, EachAll, Every, InnerAreGreater, IsShaped, standing, StaticsKeep, size_all, size_of_lambdas};
 ghost use Rattle.tb_core.specs.Tree.{Form, LambdaTree};
 ghost use Rattle.tb_expand.specs.Constants.{ConstantIn, HaveShort};
 ghost use Rattle.tb_expand.specs.Numbers.{nodes_of_all, program_of, statics_of_all};
 ghost use Rattle.tb_expand.specs.Ranges.{GlobalIn};
-ghost use Rattle.tb_expand.specs.Closed.{AreClosed};
+ghost use Rattle.tb_expand.specs.Closed.{AreClosed, binders_of_all, times};
 ghost use Rattle.tb_expand.specs.WellShaped.{HaveShape};
 ghost use Rattle.tb_expand.specs.Means.{Means, Refuses};
 ghost use Rattle.tb_expand.specs.Refusals.{Refusal};
 ghost use Rattle.tb_expand.specs.declared.context.Context.{Context};
 ghost use Rattle.tb_expand.specs.Scopes.{State};
 ghost use Rattle.tb_expand.specs.Texts.{MeansText, RefusesText};
-ghost use Rattle.tb_expand.specs.Trees.{Node, Nodes};
+ghost use Rattle.tb_expand.specs.Trees.{Node, Nodes, Var, same_var};
 ghost use Rattle.tb_sexp.specs.Tree as datum;
 
 /// A datum has one meaning or one first refusal in a context, and not both.
@@ -94,4 +95,10 @@ pub fn sites_are_apart()
 /// A numbered program of nodes that name only variables of their scopes has no free variables.
 pub fn closed_nodes_have_no_free_variables()
     ensures { (library : Bool) (es : Nodes) → HaveShape es → AreClosed [] es → free_all (inner_free (program_of library es)) (program_of library es).forms ≡ [] }
+{}
+
+/// Where closed nodes bind each variable once, and few variables, so does the numbered program.
+pub fn numbers_keep_bindings()
+    ensures once { (library : Bool) (es : Nodes) → HaveShape es → ((y : Var) → times (same_var y) (binders_of_all es) ≤ 1) → IsApart (variables (program_of library es)) }
+    ensures small { (library : Bool) (es : Nodes) → HaveShape es → AreClosed [] es → length (binders_of_all es) ≤ 2 ^ 24 → Every (λ (x : ℕ). x < 2 ^ 24) (variables (program_of library es)) }
 {}
