@@ -37,3 +37,6 @@ pub mod FirstOccurrences
 pub mod FreeNumbers
 pub mod NamedVariables
 pub mod BoundNumbers
+pub mod SplitCounts
+pub mod GoodExpressions
+pub mod CountedMeanings

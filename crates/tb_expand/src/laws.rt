@@ -102,3 +102,9 @@ pub fn numbers_keep_bindings()
     ensures once { (library : Bool) (es : Nodes) → HaveShape es → ((y : Var) → times (same_var y) (binders_of_all es) ≤ 1) → IsApart (variables (program_of library es)) }
     ensures small { (library : Bool) (es : Nodes) → HaveShape es → AreClosed [] es → length (binders_of_all es) ≤ 2 ^ 24 → Every (λ (x : ℕ). x < 2 ^ 24) (variables (program_of library es)) }
 {}
+
+/// What a text means has at most 1,000,000 nodes, and binds at most 2^24 variables.
+pub fn texts_mean_few_nodes()
+    ensures nodes { (library : Bool) (ds : datum.Trees) (es : Nodes) → MeansText library ds es → nodes_of_all es ≤ 1000000 }
+    ensures variables { (library : Bool) (ds : datum.Trees) (es : Nodes) → MeansText library ds es → length (binders_of_all es) ≤ 2 ^ 24 }
+{}
