@@ -40,3 +40,5 @@ pub mod BoundNumbers
 pub mod SplitCounts
 pub mod GoodExpressions
 pub mod CountedMeanings
+pub mod BoundMeanings
+pub mod ClosedMeanings

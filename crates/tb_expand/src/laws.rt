@@ -108,3 +108,9 @@ pub fn texts_mean_few_nodes()
     ensures nodes { (library : Bool) (ds : datum.Trees) (es : Nodes) → MeansText library ds es → nodes_of_all es ≤ 1000000 }
     ensures variables { (library : Bool) (ds : datum.Trees) (es : Nodes) → MeansText library ds es → length (binders_of_all es) ≤ 2 ^ 24 }
 {}
+
+/// What a text means names only variables of their scopes, and binds each variable once.
+pub fn texts_mean_closed_nodes()
+    ensures closed { (library : Bool) (ds : datum.Trees) (es : Nodes) → MeansText library ds es → AreClosed [] es }
+    ensures once { (library : Bool) (ds : datum.Trees) (es : Nodes) → MeansText library ds es → (y : Var) → times (same_var y) (binders_of_all es) ≤ 1 }
+{}

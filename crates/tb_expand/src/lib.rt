@@ -36,7 +36,7 @@ pub use form::Form;
 pub use laws::{
     closed_nodes_have_no_free_variables,    constants_are_in_range, constants_are_short, globals_are_in_range, lambdas_stand_once, numbers_keep_bindings, numbers_keep_nodes,
     numbers_keep_shapes, numbers_of_nodes_are_below, one_answer_a_datum, one_answer_a_text, sites_are_apart,
-    static_objects_keep_rules, texts_mean_few_nodes, texts_mean_shaped_nodes,
+    static_objects_keep_rules, texts_mean_closed_nodes, texts_mean_few_nodes, texts_mean_shaped_nodes,
 };
 pub use name::{Name, Variable};
 pub use refusal::ExpandRefusal;
