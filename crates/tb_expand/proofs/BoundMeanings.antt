@@ -200,5 +200,12 @@ module _ (y : Var) where
     forms_once no_form = omega arith
     forms_once (one_form {es = es} {fs = fs} m ms) = let r = form_once m in let u = forms_once ms in let j = binders_joined (same_var y) es fs in omega arith
 
+-- the variables of a scope, and those that a scan finds
+pub variables_once : (s : ℕ) (bs : List Binder) → bound_twice bs ≡ None → (y : Var) → count y (variables s (names bs)) ≤ 1
+variables_once s bs e y = let h = scope_once y s bs e in let l = past_least y.scope s in omega arith
+
+pub found_once : {st : State} {c : Context} {ds : datum.Trees} {f : Found} {st' : State} → Scans st c ds f st' → (y : Var) → count y f.variables ≤ 1
+found_once {st = st} s y = let h = scan_once y s in let l = past_least y.scope (fresh st) in omega arith
+
 pub text_once : (library : Bool) (ds : datum.Trees) (es : Nodes) → MeansText library ds es → (y : Var) → times (same_var y) (binders_of_all es) ≤ 1
 text_once library ds es (a_text m o) y = let r = forms_once y m in let l = past_least y.scope 1 in let q : past y.scope (0 + 1) ≡ past y.scope 1 = refl in omega arith

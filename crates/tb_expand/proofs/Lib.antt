@@ -42,3 +42,5 @@ pub mod GoodExpressions
 pub mod CountedMeanings
 pub mod BoundMeanings
 pub mod ClosedMeanings
+pub mod Steady
+pub mod SteadyMeanings

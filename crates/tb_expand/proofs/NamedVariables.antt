@@ -95,10 +95,10 @@ count y xs = times (same_var y) xs
 abbrev pub IsHeld : List Var → List Var → Var → Type 0
 IsHeld xs bs y = 1 ≤ count y xs + count y bs
 
-bound_held : (xs bs : List Var) (x : Var) → is_bound xs x ≡ true → IsHeld xs bs x
+pub bound_held : (xs bs : List Var) (x : Var) → is_bound xs x ≡ true → IsHeld xs bs x
 bound_held xs bs x h = let k = leb-true 1 (count x xs) (sym (any_times (same_var x) xs) ∙ h) in omega arith
 
-own_held : (xs ys bs : List Var) → Every (IsHeld xs (ys ++ bs)) ys
+pub own_held : (xs ys bs : List Var) → Every (IsHeld xs (ys ++ bs)) ys
 own_held xs [] bs = tt
 own_held xs (c ∷ cs) bs = (
   let k : one_if (same_var c c) ≡ 1 = ap one_if (same_var_itself c) in omega arith,

@@ -110,7 +110,7 @@ module _ (test : Var → Bool) where
   one_bound true x e t o n h = omega arith
   one_bound false x e t o n h = omega arith
 
-  both_bound : (parts : Nodes) (xs : List Var) (vs : Nodes) → passing (chosen true parts xs vs).variables + passing (chosen false parts xs vs).variables ≤ passing xs
+  pub both_bound : (parts : Nodes) (xs : List Var) (vs : Nodes) → passing (chosen true parts xs vs).variables + passing (chosen false parts xs vs).variables ≤ passing xs
   both_bound parts [] vs = omega arith
   both_bound parts (x ∷ xs) nil = omega arith
   both_bound parts (x ∷ xs) (cons e es) = one_bound (is_steady parts x e) x e (chosen true parts xs es) (chosen false parts xs es) (passing xs) (both_bound parts xs es)
