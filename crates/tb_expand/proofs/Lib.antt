@@ -44,3 +44,7 @@ pub mod BoundMeanings
 pub mod ClosedMeanings
 pub mod Steady
 pub mod SteadyMeanings
+pub mod SteadyPrograms
+pub mod AssignedNumbers
+pub mod SteadyNumbers
+pub mod LambdaRanges
