@@ -3,24 +3,8 @@ use Rattle.std.proofs.Common.{ℕ, ◌+◌, ◌<◌, ◌≤◌, arith, Bool, Lis
 use Rattle.tb_core.specs.Tree as core
 use Rattle.tb_core.specs.Tree.{Form, Tree, Trees, LambdaTree, none, more}
 use Rattle.tb_core.specs.Rules.{Every, Each, EachForm, EachAll, inner, inner_form, inner_all, inner_of_lambdas}
+use Rattle.tb_expand.specs.Ranges.{LambdaIn}
 use Rattle.tb_expand.proofs.NamedVariables.{every_left, every_right}
-
--- the lambda expressions that a node names are among so many
-abbrev pub LambdaIn : ℕ → Form → Type 0
-LambdaIn n (core.Quote c) = Unit {0}
-LambdaIn n (core.Local x) = Unit {0}
-LambdaIn n (core.Global g) = Unit {0}
-LambdaIn n (core.Lambda l) = l < n
-LambdaIn n (core.If a b c) = Unit {0}
-LambdaIn n (core.SetLocal x e) = Unit {0}
-LambdaIn n (core.SetGlobal g e) = Unit {0}
-LambdaIn n (core.DefGlobal g e) = Unit {0}
-LambdaIn n (core.Let xs es e) = Unit {0}
-LambdaIn n (core.Letrec xs ls e) = Every (λ l. l < n) ls
-LambdaIn n (core.Seq es) = Unit {0}
-LambdaIn n (core.Call f es) = Unit {0}
-LambdaIn n (core.PrimUse q es) = Unit {0}
-LambdaIn n (core.Apply f l) = Unit {0}
 
 module _ (n : ℕ) where
   abbrev Names : ℕ → Form → Type 0

@@ -48,3 +48,4 @@ pub mod SteadyPrograms
 pub mod AssignedNumbers
 pub mod SteadyNumbers
 pub mod LambdaRanges
+pub mod KeepingRules

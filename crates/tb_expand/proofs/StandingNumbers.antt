@@ -6,13 +6,16 @@ use Rattle.tb_semantics.specs.Graph.{IsApart}
 use Rattle.tb_core.specs.Tree as core
 use Rattle.tb_core.specs.Tree.{LambdaTree}
 use Rattle.tb_core.specs.FreeVariables.{is_in}
-use Rattle.tb_core.specs.Rules.{Every, inner, inner_form, inner_all, inner_of_lambdas, standing, InnerAreGreater}
+use Rattle.tb_core.specs.Rules.{Every, Each, EachAll, inner, inner_form, inner_all, inner_of_lambdas, standing, InnerAreGreater}
 use Rattle.tb_expand.specs.Trees.{Node, At, Core, Constant, Unspecified, Undefined, Local, Global, Lambda, If, SetLocal, SetGlobal, DefGlobal, Let, Letrec, Seq, Call, PrimUse, Apply, Nodes, nil, cons, is_lambda}
 use Rattle.tb_expand.specs.Numbers.{Tables, Before, closures, closures_in, closures_of_all, lambda_numbers, behind_node, behind_nodes, behind_values, one_node, one_closure, numbered, numbered_in, numbered_all, lambdas_of, lambdas_in, lambdas_of_all, lambdas_of_values, tables_of, none_before, program_of}
 use Rattle.tb_expand.specs.WellShaped.{AreLambdas, HasShape, HasShapeIn, HaveShape}
+use Rattle.tb_expand.specs.Ranges.{LambdaIn}
+use Rattle.tb_expand.proofs.LambdaRanges.{trees_names, lambdas_name}
+use Rattle.tb_expand.proofs.NamedVariables.{every_left, every_right}
 use Rattle.tb_expand.proofs.ShapedNumbers.{every_joined}
 use Rattle.tb_expand.specs.Closed.{one_if, times}
-use Rattle.tb_expand.proofs.Times.{times_joined, is_number, times_apart, times_in, past, past_here, past_none, past_below, past_least}
+use Rattle.tb_expand.proofs.Times.{times_joined, is_number, times_apart, times_in, past, past_here, past_none, past_at, past_below, past_least, same_once}
 
 -- the lambda expression of a value
 pub value_inner : (t : Tables) (b : Before) (p : Place) (c : Core) → is_lambda (At p c) ≡ true → inner_form (numbered_in t b c) ≡ b.closures ∷ []
@@ -204,6 +207,26 @@ at_least_once library es h l lt =
     let n = program_lambdas library es in
     let z = past_below l (closures_of_all es) (omega arith) in
     times_in l (standing (program_of library es)) (omega arith)
+
+below_all : (n : ℕ) (xs : List ℕ) → ((x : ℕ) → 1 ≤ times (is_number x) xs → x < n) → Every (λ l. l < n) xs
+below_all n [] h = tt
+below_all n (x ∷ xs) h = (let o = same_once x in h x (omega arith), below_all n xs (λ y k. h y (omega arith)))
+
+standing_below : (library : Bool) (es : Nodes) → HaveShape es → Every (λ l. l < length (program_of library es).lambdas) (standing (program_of library es))
+standing_below library es h =
+    below_all (length (program_of library es).lambdas) (standing (program_of library es))
+    (λ x k. let s = stands library es x h in let n = program_lambdas library es in
+    ⊎_elim (λ l. l) (λ g. let o = past_at x (closures_of_all es) (omega arith) in absurd (omega arith)) (cases_lt x (length (program_of library es).lambdas)))
+
+pub forms_name : (library : Bool) (es : Nodes) → HaveShape es → EachAll (λ s f. LambdaIn (length (program_of library es).lambdas) f) (program_of library es).forms
+forms_name library es h =
+    let p = program_of library es in
+    trees_names (length p.lambdas) p.forms (every_left (λ l. l < length p.lambdas) (inner_all p.forms) (inner_of_lambdas p.lambdas) (standing_below library es h))
+
+pub bodies_name : (library : Bool) (es : Nodes) → HaveShape es → Every (λ l. Each (λ s f. LambdaIn (length (program_of library es).lambdas) f) l.body) (program_of library es).lambdas
+bodies_name library es h =
+    let p = program_of library es in
+    lambdas_name (length p.lambdas) p.lambdas (every_right (λ l. l < length p.lambdas) (inner_all p.forms) (inner_of_lambdas p.lambdas) (standing_below library es h))
 
 -- the lambda expressions inside others
 above_joined : (k : ℕ) (xs ys : List ℕ) → Every (λ m. k ≤ m) xs → Every (λ m. k ≤ m) ys → Every (λ m. k ≤ m) (xs ++ ys)

@@ -30,7 +30,7 @@ any_times test (x ∷ xs) = or_some (test x) (times test xs) (list_any test xs) 
 abbrev pub is_number : ℕ → ℕ → Bool
 is_number n x = x == n
 
-same_once : (x : ℕ) → one_if (is_number x x) ≡ 1
+pub same_once : (x : ℕ) → one_if (is_number x x) ≡ 1
 same_once x = ap one_if (eq-eqb x x refl)
 
 pub in_times : (x : ℕ) (xs : List ℕ) → IsIn x xs → 1 ≤ times (is_number x) xs

@@ -5,11 +5,11 @@ ghost use Rattle.tb_core.specs.FreeVariables.{free_all, inner_free, is_in};
 ghost use Rattle.tb_semantics.specs.Graph.{IsApart};
 ghost use Rattle.tb_core.specs.OperandOrder.{Line, order_of};
 ghost use Rattle.tb_core.specs.Variables.{variables};
-ghost use Rattle.tb_core.specs.Rules.{Each, EachAll, Every, InnerAreGreater, IsShaped, standing, StaticsKeep, size_all, size_of_lambdas};
+ghost use Rattle.tb_core.specs.Rules.{Each, EachAll, Every, InnerAreGreater, IsShaped, KeepsRules, standing, StaticsKeep, size_all, size_of_lambdas};
 ghost use Rattle.tb_core.specs.Tree.{Form, LambdaTree};
 ghost use Rattle.tb_expand.specs.Constants.{ConstantIn, HaveShort};
 ghost use Rattle.tb_expand.specs.Numbers.{nodes_of_all, program_of, statics_of_all};
-ghost use Rattle.tb_expand.specs.Ranges.{GlobalIn};
+ghost use Rattle.tb_expand.specs.Ranges.{GlobalIn, LambdaIn};
 ghost use Rattle.tb_expand.specs.Closed.{AreClosed, binders_of_all, times};
 ghost use Rattle.tb_expand.specs.WellShaped.{HaveShape};
 ghost use Rattle.tb_expand.specs.Means.{Means, Refuses};
@@ -113,4 +113,15 @@ pub fn texts_mean_few_nodes()
 pub fn texts_mean_closed_nodes()
     ensures closed { (library : Bool) (ds : datum.Trees) (es : Nodes) → MeansText library ds es → AreClosed [] es }
     ensures once { (library : Bool) (ds : datum.Trees) (es : Nodes) → MeansText library ds es → (y : Var) → times (same_var y) (binders_of_all es) ≤ 1 }
+{}
+
+/// The lambda expressions that the nodes of a numbered program name are in range.
+pub fn lambdas_are_in_range()
+    ensures forms { (library : Bool) (es : Nodes) → HaveShape es → EachAll (λ (s : ℕ) (f : Form). LambdaIn (length (program_of library es).lambdas) f) (program_of library es).forms }
+    ensures lambdas { (library : Bool) (es : Nodes) → HaveShape es → Every (λ (l : LambdaTree). Each (λ (s : ℕ) (f : Form). LambdaIn (length (program_of library es).lambdas) f) l.body) (program_of library es).lambdas }
+{}
+
+/// The numbered program of a text keeps the rules of a program.
+pub fn numbered_programs_keep_rules()
+    ensures { (library : Bool) (ds : datum.Trees) (es : Nodes) → MeansText library ds es → KeepsRules (program_of library es) }
 {}
