@@ -15,3 +15,4 @@ pub mod Named
 pub mod Closed
 pub mod ProcsKeep
 pub mod Passing
+pub mod Kept

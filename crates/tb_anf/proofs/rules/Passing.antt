@@ -1,12 +1,11 @@
 -- An operation of a normal form passes as many operands as the call of its source, and has the constants of its source.
-use Rattle.std.proofs.Common.{◌≡◌, refl, sym, ap, subst, ℕ, zero, suc, ◌+◌, ◌^◌, ◌≤◌, arith, Bool, true, List, [], ◌∷◌, ◌++◌, length, map, Option, Some, None, slice_get, length-append}
+use Rattle.std.proofs.Common.{◌≡◌, refl, subst, ℕ, suc, ◌+◌, ◌^◌, ◌≤◌, arith, Bool, true, List, [], ◌∷◌, ◌++◌, length, Option, Some, None, slice_get, length-append}
 use Rattle.tb_prim.specs.declared.place.Place.{Place}
 use Rattle.tb_prim.specs.declared.constant.Const.{Const}
 use Rattle.tb_core.specs.OperandOrder.{Line}
 use Rattle.tb_core.specs.Rules.{Every}
 use Rattle.tb_core.specs.Tree.{option_list}
 use Rattle.tb_ir.specs.AnfRules.{all_blocks, of_each, operation, operations}
-use Rattle.tb_ir.specs.AnfTree as A
 use Rattle.tb_ir.specs.AnfTree.{Block, Op, ProcTree}
 use Rattle.tb_ir.specs.FreeVariables.{parameters, added_to}
 use Rattle.tb_ir.specs.Passed.{passed_at, passed_by}
@@ -20,7 +19,7 @@ use Rattle.tb_anf.proofs.Scopes.{every-append}
 use Rattle.tb_anf.proofs.TreeParts.{parts}
 use Rattle.tb_anf.proofs.rules.BlocksKeep.{atoms-count}
 use Rattle.tb_anf.proofs.rules.ProcsKeep.{each-every}
-use Rattle.tb_anf.proofs.rules.Walk.{Walks, Makes, of_quote, of_local, of_global, of_lambda, of_if, of_new_cell, of_cell_get, of_cell_set, of_set_global, of_def_global, of_nothing, of_call, of_direct, of_prim, of_apply, AllOf, AllReady, Own, whole-all}
+use Rattle.tb_anf.proofs.rules.Walk.{Makes, of_quote, of_local, of_global, of_lambda, of_if, of_new_cell, of_cell_get, of_cell_set, of_set_global, of_def_global, of_nothing, of_call, of_direct, of_prim, of_apply, AllOf, AllReady, Own, whole-all}
 
 abbrev Anything : Tree → Type 0
 Anything e = Unit {0}
