@@ -97,7 +97,8 @@ form-apart (more d es) zero e t a =
 form-apart (more d es) (suc k) e t a = form-apart es k e t (apart-right (own d) _ (subst IsApart (own-more d es) a))
 
 -- nor in two
-two_bodies : (ls : List LambdaTree) (i j : ℕ) (m l : LambdaTree) → i < j → slice_get ls i ≡ Some m → slice_get ls j ≡ Some l →
+two_bodies : (ls : List LambdaTree) (i j : ℕ) (m l : LambdaTree) → i < j → slice_get ls i ≡ Some m →
+    slice_get ls j ≡ Some l →
     IsApart (own_in ls) → (y : ℕ) → IsIn y (own m.body) → IsIn y (own l.body) → ⊥
 two_bodies [] i j m l lt e f a y s t = cc
 two_bodies (k ∷ ls) i zero m l lt e f a y s t = absurd (omega arith)
@@ -143,7 +144,8 @@ module _ (p : ProgramTree) (once : IsApart (variables p)) where
   same-body l k m n e f y i j =
       one-body p.lambdas l k m n e f (apart-right (own_of p.forms) _ bodies_apart) y i j
 
-  pub other-body : (l k : ℕ) (m n : LambdaTree) → l < k → IsLambda p l m → IsLambda p k n → (y : ℕ) → IsIn y (own m.body) →
+  pub other-body : (l k : ℕ) (m n : LambdaTree) → l < k → IsLambda p l m → IsLambda p k n → (y : ℕ) → IsIn y
+      (own m.body) →
       IsIn y (own n.body) → ⊥
   other-body l k m n lt e f y i j =
       two_bodies p.lambdas l k m n lt e f (apart-right (own_of p.forms) _ bodies_apart) y i j

@@ -2,4 +2,5 @@ pub mod NormalForm
 pub mod Wider
 pub mod Constants
 pub mod Examples
+pub mod Worked
 pub mod calls

@@ -13,6 +13,6 @@ mod pass;
 mod program;
 mod steps;
 
-pub use examples::worked_programs;
+pub use examples::{worked_forms, worked_programs};
 pub use normal::normal_procs;
 pub use program::normalise;

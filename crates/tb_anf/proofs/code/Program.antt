@@ -24,8 +24,10 @@ use Rattle.tb_anf.proofs.rules.Kept.{rules-keep}
 abbrev whole : List GlobalName → List Static → List Line → List ProcTree → AnfTree
 whole globals statics order procs = record { globals = globals; statics = statics; order = order; procs = procs }
 
-pub made-whole : (p : ProgramTree) (lines order : List OrderLine) (names globals : List GlobalName) (objects statics : List Static)
-    (copied : List OrderLine) (procs : List AnfProc) → names ≡ p.globals → globals ≡ names → objects ≡ p.statics → statics ≡ objects →
+pub made-whole : (p : ProgramTree) (lines order : List OrderLine) (names globals : List GlobalName)
+    (objects statics : List Static)
+    (copied : List OrderLine) (procs : List AnfProc) → names ≡ p.globals → globals ≡ names → objects ≡ p.statics →
+        statics ≡ objects →
     order ≡ lines → copied ≡ order → map view_proc procs ≡ (normal_form p (map view_line lines)).procs →
     plain_anf globals statics copied procs ≡ normal_form p (map view_line lines)
 made-whole p lines order names globals objects statics copied procs n g o s l c h =
@@ -35,7 +37,8 @@ made-whole p lines order names globals objects statics copied procs n g o s l c 
     ∙ ap (λ qs. whole p.globals p.statics (map view_line lines) qs) h
 
 -- what holds of a program that is the normal form
-module _ (p : ProgramTree) (order : List Line) (made : AnfTree) (same : made ≡ normal_form p order) (rules : KeepsRules (2 ^ 31) p)
+module _ (p : ProgramTree) (order : List Line) (made : AnfTree) (same : made ≡ normal_form p order)
+    (rules : KeepsRules (2 ^ 31) p)
     (lines : IsOrderOf p order) where
   pub rules-at : anf.KeepsRules made
   rules-at = subst anf.KeepsRules (sym same) (rules-keep p order rules lines)
@@ -46,4 +49,5 @@ module _ (p : ProgramTree) (order : List Line) (made : AnfTree) (same : made ≡
       (normal-form-keeps p order input rules lines)
 
   pub no-wider-at : AreNoWider (anf_width.all_widths made) (width.all_widths p order)
-  no-wider-at = subst (λ q. AreNoWider (anf_width.all_widths q) (width.all_widths p order)) (sym same) (no-wider p order rules lines)
+  no-wider-at = subst (λ q. AreNoWider (anf_width.all_widths q) (width.all_widths p order)) (sym same)
+      (no-wider p order rules lines)

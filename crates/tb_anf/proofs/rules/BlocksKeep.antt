@@ -141,7 +141,8 @@ module _ (p : ProgramTree) (order : List Line) (rules : KeepsRules (2 ^ 31) p) (
   cell_own None a i h = absurd i
   cell_own (Some y) a i h = λ b. bound_to y (A.NewCell a) b h
 
-  constant_keeps : (c : Const) → ConstKeeps (length p.statics) c → N.is_mark (A.Quote c) ≡ false → OpKeeps (A.Atom (A.Quote c))
+  constant_keeps : (c : Const) → ConstKeeps (length p.statics) c → N.is_mark (A.Quote c) ≡ false → OpKeeps
+      (A.Atom (A.Quote c))
   constant_keeps c h i = record { atoms_keep = (h, tt); range = tt; lambdas = tt; shaped = tt; no_mark = (i, tt) }
 
   mark_own : (k : Option ℕ) → MarkMay k → OwnKeeps k (A.Atom (A.Quote Const.Undefined))
@@ -188,7 +189,8 @@ module _ (p : ProgramTree) (order : List Line) (rules : KeepsRules (2 ^ 31) p) (
       tested-in (N.cells q) y (cells-stay p order rules lines y (small_cell y (in-tested _ y h)) (in-tested _ y h))
     where
       small_cell : (y : ℕ) → IsIn y (of_nodes K.cell_binders (all_nodes p)) → y < 2 ^ 31
-      small_cell y i = every-in (λ z. z < 2 ^ 31) (K.variables p) y rules.small_variables (cell-variable p rules.nodes y i)
+      small_cell y i = every-in (λ z. z < 2 ^ 31) (K.variables p) y rules.small_variables
+          (cell-variable p rules.nodes y i)
   names_cell n (Node u s f) h = absurd h
 
   -- a parameter is no cell
@@ -198,7 +200,8 @@ module _ (p : ProgramTree) (order : List Line) (rules : KeepsRules (2 ^ 31) p) (
       both : IsIn y (N.cells q) → ⊥
       both j =
           let whole = variables-parts p
-          ∙ ap (λ z. z ++ params_of p.lambdas) (sym (of_nodes-append K.binders (K.nodes_of p.forms) (K.nodes_of_lambdas p.lambdas))) in
+          ∙ ap (λ z. z ++ params_of p.lambdas) (sym (of_nodes-append K.binders (K.nodes_of p.forms)
+              (K.nodes_of_lambdas p.lambdas))) in
           let small = every-in (λ z. z < 2 ^ 31) (K.variables p) y rules.small_variables
           (subst (IsIn y) (sym whole) (in-right y (of_nodes K.binders (all_nodes p)) _ i)) in
           let same = binders-same y small p order (proper-nodes p order rules lines) in
@@ -211,7 +214,8 @@ module _ (p : ProgramTree) (order : List Line) (rules : KeepsRules (2 ^ 31) p) (
   -- what a direct call passes
   added_pass : (n : ℕ) (es : Trees) (ys : List ℕ) → AreAdded 0 es ys → N.PassesCells q ys (atoms n es)
   added_pass n none [] h = tt
-  added_pass n (more (Node u s (Local z)) es) (y ∷ ys) h = (λ t. h.0, added_pass (n + size (Node u s (Local z))) es ys h.1)
+  added_pass n (more (Node u s (Local z)) es) (y ∷ ys) h = (λ t. h.0, added_pass
+      (n + size (Node u s (Local z))) es ys h.1)
   added_pass n es ys h = absurd h
 
   passes : (n : ℕ) (es : Trees) (xs ys : List ℕ) → ((y : ℕ) → IsIn y xs → is_in (N.cells q) y ≡ false) →
@@ -226,7 +230,8 @@ module _ (p : ProgramTree) (order : List Line) (rules : KeepsRules (2 ^ 31) p) (
       one (Node u s (Local y)) f r = (λ t. absurd cc, r)
       one (Node u s k) f r = (λ t. absurd cc, r)
 
-  lifted_there : (set : List Lifted) → Every (LiftedKeeps p) set → (l : ℕ) → IsIn l (map (λ (m : Lifted). m.lambda) set) →
+  lifted_there : (set : List Lifted) → Every (LiftedKeeps p) set → (l : ℕ) → IsIn l
+      (map (λ (m : Lifted). m.lambda) set) →
       (l < length p.lambdas) × ((m : LambdaTree) → IsLambda p l m → m.rest ≡ None)
   lifted_there set h l i =
       let f = lifted_found (LiftedKeeps p) set l i h in
@@ -240,7 +245,8 @@ module _ (p : ProgramTree) (order : List Line) (rules : KeepsRules (2 ^ 31) p) (
       by_lambda (slice_get p.lambdas l) (proc_of q.procs l) (same-lambdas p order l) found.0 found.1 found.1
       (there.1 found.0 found.1) (c.operands_match found.0 found.1)
     where
-      by_lambda : (o : Option LambdaTree) (r : Option ProcTree) → SameLambda p (line_of order) l o r → (m : LambdaTree) →
+      by_lambda : (o : Option LambdaTree) (r : Option ProcTree) → SameLambda p (line_of order) l o r →
+          (m : LambdaTree) →
           IsLambda p l m → o ≡ Some m → m.rest ≡ None → AreAdded (length m.formals) es (added_to p.set l) →
           N.PassesAll q r (atoms n es)
       by_lambda o r no_lambda m i e t a = cc
@@ -263,7 +269,8 @@ module _ (p : ProgramTree) (order : List Line) (rules : KeepsRules (2 ^ 31) p) (
   own k u s f op (of_global g) d h r =
       plain_own k _ tt (record { atoms_keep = tt; range = d.0.in_range; lambdas = tt; shaped = tt; no_mark = tt })
   own k u s f op (of_lambda l) d h r =
-      plain_own k _ tt (record { atoms_keep = tt; range = tt; lambdas = in_lambdas (l ∷ []) d.0.in_range; shaped = tt; no_mark = tt })
+      plain_own k _ tt (record { atoms_keep = tt; range = tt; lambdas = in_lambdas
+          (l ∷ []) d.0.in_range; shaped = tt; no_mark = tt })
   own k u s f op (of_if n a b c e g) d h r =
       plain_own k _ tt (record {
         atoms_keep = (atom_keeps n a h.0, tt);
@@ -365,7 +372,8 @@ module _ (p : ProgramTree) (order : List Line) (rules : KeepsRules (2 ^ 31) p) (
   named (y ∷ ys) none h i = tt
   named (y ∷ ys) (more e es) h i =
       let proper = proper-nodes p order rules lines in (
-        (λ t. named-same y (i y (inl refl)) p order proper ∙ h.0 t ∙ sym (celled-same y (i y (inl refl)) p order proper), λ t. tt),
+        (λ t. named-same y (i y (inl refl)) p order proper ∙ h.0 t ∙ sym
+            (celled-same y (i y (inl refl)) p order proper), λ t. tt),
         named ys es h.1 (λ z j. i z (inr j)),
       )
 
@@ -385,7 +393,8 @@ module _ (p : ProgramTree) (order : List Line) (rules : KeepsRules (2 ^ 31) p) (
 
   kept : Every Kept (all_nodes p)
   kept =
-      every-zip (NodeKeeps (2 ^ 31) p) (λ d. (y : ℕ) → IsIn y (K.binders (form_of d)) → IsIn y (of_nodes K.binders (all_nodes p)))
+      every-zip (NodeKeeps (2 ^ 31) p) (λ d. (y : ℕ) → IsIn y (K.binders (form_of d)) → IsIn y
+          (of_nodes K.binders (all_nodes p)))
       Kept (all_nodes p)
       (λ d a b. (
         a,

@@ -50,13 +50,15 @@ taken_at (suc l) (k ∷ ls) (suc j) m e = let r = taken_at l ls j m e in (let lt
 abbrev pub Entry : (Lifted → Type 0) → List Lifted → ℕ → Type 0
 Entry P set l = (m : Lifted) × (m.lambda ≡ l) × (added_to set l ≡ m.added) × P m
 
-past_entry : (P : Lifted → Type 0) (m : Lifted) (ms : List Lifted) (l : ℕ) → (m.lambda ≡ l → ⊥) → Entry P ms l → Entry P (m ∷ ms) l
+past_entry : (P : Lifted → Type 0) (m : Lifted) (ms : List Lifted) (l : ℕ) → (m.lambda ≡ l → ⊥) → Entry P ms l →
+    Entry P (m ∷ ms) l
 past_entry P m ms l ne r = (r.0, r.1, ap (λ b. cond b m.added (added_to ms l)) (ne_eqb m.lambda l ne) ∙ r.2, r.3)
 
 this_entry : (P : Lifted → Type 0) (m : Lifted) (ms : List Lifted) (l : ℕ) → m.lambda ≡ l → P m → Entry P (m ∷ ms) l
 this_entry P m ms l e h = (m, e, ap (λ b. cond b m.added (added_to ms l)) (eq-eqb m.lambda l e), h)
 
-pub lifted-entry : (P : Lifted → Type 0) (set : List Lifted) (l : ℕ) → IsIn l (map (λ (m : Lifted). m.lambda) set) → Every P set →
+pub lifted-entry : (P : Lifted → Type 0) (set : List Lifted) (l : ℕ) → IsIn l (map (λ (m : Lifted). m.lambda) set) →
+    Every P set →
     Entry P set l
 lifted-entry P [] l i h = absurd i
 lifted-entry P (m ∷ ms) l (inl e) h = this_entry P m ms l e h.0
@@ -68,7 +70,8 @@ lifted-entry P (m ∷ ms) l (inr i) h =
 pub added-entry : (set : List Lifted) (l y : ℕ) → IsIn y (added_to set l) → IsIn l (map (λ (m : Lifted). m.lambda) set)
 added-entry [] l y i = absurd i
 added-entry (m ∷ ms) l y i =
-    ⊎_elim inl (λ ne. inr (added-entry ms l y (subst (λ b. IsIn y (cond b m.added (added_to ms l))) (ne_eqb m.lambda l ne) i)))
+    ⊎_elim inl (λ ne. inr (added-entry ms l y (subst (λ b. IsIn y (cond b m.added (added_to ms l)))
+        (ne_eqb m.lambda l ne) i)))
     (cases_eq m.lambda l)
 
 -- a lambda expression binds the variable, and its number is less than this one
@@ -88,7 +91,9 @@ module _ (p : ProgramTree) (rules : KeepsRules (2 ^ 31) p) where
 
   later : (k l y : ℕ) → k < l → BoundBefore p k y → BoundBefore p l y
   later k l y lt =
-      ⊎_elim inl (λ b. let a = b.less in inr (record { number = b.number; lambda = b.lambda; less = omega arith; there = b.there; here = b.here }))
+      ⊎_elim inl
+          (λ b. let a = b.less in inr
+          (record { number = b.number; lambda = b.lambda; less = omega arith; there = b.there; here = b.here }))
 
   of_variables : (l y : ℕ) → IsIn y (variables_before p l) → BoundBefore p l y
   of_variables l y i =
@@ -108,7 +113,8 @@ module _ (p : ProgramTree) (rules : KeepsRules (2 ^ 31) p) where
   pub added-before : (l y : ℕ) → IsIn y (added_to p.set l) → BoundBefore p l y
   added-before l y i =
       let r = lifted-entry (LiftedKeeps p) p.set l (added-entry p.set l y i) rules.lifted in
-      let t = every-in (λ z. is_in (variables_before p r.0.lambda) z ≡ true) r.0.added y r.3.added_bound (subst (IsIn y) r.2 i) in
+      let t = every-in (λ z. is_in (variables_before p r.0.lambda) z ≡ true) r.0.added y r.3.added_bound
+          (subst (IsIn y) r.2 i) in
       of_variables l y (subst (λ k. IsIn y (variables_before p k)) r.1 (in-tested _ y t))
 
   in_group : (ls : List ℕ) (l y : ℕ) → IsIn l ls → IsIn y (I l) → IsIn y (of_lambdas I ls)
@@ -132,7 +138,8 @@ module _ (p : ProgramTree) (rules : KeepsRules (2 ^ 31) p) where
   reaches : (e d : Tree) → IsScoped I (free I e) (own e) d → ((y : ℕ) → IsIn y (binders (form_of d)) → IsIn y (own e)) →
       Reaches (free I e ++ own e) d
   reaches e (Node u s f) sc b l y i j =
-      ⊎_elim (λ k. ⊎_elim (in-left y (free I e) _) (in-right y (free I e) _) (sc y k)) (λ k. in-right y (free I e) _ (b y k))
+      ⊎_elim (λ k. ⊎_elim (in-left y (free I e) _) (in-right y (free I e) _) (sc y k))
+          (λ k. in-right y (free I e) _ (b y k))
       (at_node u s f l y i j)
 
   some_node : (zs : List ℕ) (ds : List Tree) → Every (Reaches zs) ds → (l y : ℕ) → IsIn l (of_nodes standing_at ds) →
@@ -141,14 +148,16 @@ module _ (p : ProgramTree) (rules : KeepsRules (2 ^ 31) p) where
   some_node zs (d ∷ ds) h l y i j =
       ⊎_elim (λ k. h.0 l y k j) (λ k. some_node zs ds h.1 l y k j) (in-either l (standing_at (form_of d)) _ i)
 
-  within : (e : Tree) (l y : ℕ) → IsIn l (of_nodes standing_at (nodes e)) → IsIn y (I l) → IsIn y (free I e) ⊎ IsIn y (own e)
+  within : (e : Tree) (l y : ℕ) → IsIn l (of_nodes standing_at (nodes e)) → IsIn y (I l) → IsIn y (free I e) ⊎ IsIn y
+      (own e)
   within e l y i j =
       in-either y (free I e) (own e) (some_node (free I e ++ own e) (nodes e)
       (every-zip (IsScoped I (free I e) (own e)) (λ d. (y : ℕ) → IsIn y (binders (form_of d)) → IsIn y (own e))
       (Reaches (free I e ++ own e)) (nodes e) (reaches e) (scoped I e) (in-node binders (nodes e))) l y i j)
 
   -- a body with a smaller number
-  inside : (l y k : ℕ) (m : LambdaTree) → IsLambda p k m → k < l → ((j : ℕ) → j < l → IsIn y (I j) → BoundBefore p j y) →
+  inside : (l y k : ℕ) (m : LambdaTree) → IsLambda p k m → k < l →
+      ((j : ℕ) → j < l → IsIn y (I j) → BoundBefore p j y) →
       IsIn y (free I m.body) → BoundBefore p l y
   inside l y k m e less h v =
       ⊎_elim
@@ -170,7 +179,8 @@ module _ (p : ProgramTree) (rules : KeepsRules (2 ^ 31) p) where
       (λ k. let r = in_body standing_at p.lambdas l k in
       let less = greater_at p.lambdas 0 r.0 r.1 rules.inner_greater r.2 l r.3 in
       ⊎_elim (λ v. inside l y r.0 r.1 r.2 (omega arith) h v)
-      (λ v. inr (record { number = r.0; lambda = r.1; less = omega arith; there = r.2; here = inr v })) (within r.1.body l y r.3 i))
+      (λ v. inr (record { number = r.0; lambda = r.1; less = omega arith; there = r.2; here = inr v }))
+          (within r.1.body l y r.3 i))
       (in-either l (of_nodes standing_at (nodes_of p.forms)) _
       (subst (IsIn l) (of_nodes-append standing_at (nodes_of p.forms) (nodes_of_lambdas p.lambdas)) j)))
       (λ j. let r = lifted_found (LiftedKeeps p) p.set l j rules.lifted in
@@ -190,7 +200,8 @@ module _ (p : ProgramTree) (rules : KeepsRules (2 ^ 31) p) where
   before-small l y b =
       every-in (λ z. z < 2 ^ 31) (variables p) y rules.small_variables
       (⊎_elim (form-variable p y)
-      (λ c. ⊎_elim (parameter-variable p c.number c.lambda c.there y) (body-variable p c.number c.lambda c.there y) c.here) b)
+      (λ c. ⊎_elim (parameter-variable p c.number c.lambda c.there y)
+          (body-variable p c.number c.lambda c.there y) c.here) b)
 
   pub before-other : (l y : ℕ) (m : LambdaTree) → IsLambda p l m → BoundBefore p l y → IsIn y (own m.body) → ⊥
   before-other l y m e b i =

@@ -53,7 +53,8 @@ pub inner-forms : (p : ProgramTree) (es : Trees) →
 inner-forms p none h = tt
 inner-forms p (more e es) h = ((h.0.value, h.0.no_cell), inner-forms p es h.1)
 
-pub inner-bodies : (p : ProgramTree) (ms : List LambdaTree) → Every (λ (m : LambdaTree). BodyKeeps p (parameters m) m.body) ms →
+pub inner-bodies : (p : ProgramTree) (ms : List LambdaTree) → Every
+    (λ (m : LambdaTree). BodyKeeps p (parameters m) m.body) ms →
     Every (λ (m : LambdaTree). IsInner m.body) ms
 inner-bodies p ms h = every-map _ _ ms (λ m b. (b.value, b.no_cell)) h
 
@@ -85,7 +86,8 @@ module _ (z : ℕ) (small : z < 2 ^ 31) (want : Bool) where
   kind_bound false y op b p s f (of_new_cell n e) r q = let t = r q in absurd cc
   kind_bound false y op b p s f m r q = inl q
 
-  kind_own : (p : ProgramTree) (k : Option ℕ) (q : Place) (s : ℕ) (f : Form) (op : Op) → Makes q f op → Kept p (Node q s f) →
+  kind_own : (p : ProgramTree) (k : Option ℕ) (q : Place) (s : ℕ) (f : Form) (op : Op) → Makes q f op → Kept p
+      (Node q s f) →
       AllOf (Kept p) (parts f) → IsReady k (Node q s f) → Own IsKind (Kept p) IsInner IsReady k op
   kind_own p None q s f op m d h r = λ i. absurd i
   kind_own p (Some y) q s f op m d h r = λ b i. ⊎_elim (kind_bound want y op b q s f m r) (λ j. absurd j) i
@@ -95,13 +97,15 @@ module _ (z : ℕ) (small : z < 2 ^ 31) (want : Bool) where
   kind_close true xs ls b h i = absurd (h refl i)
   kind_close false xs ls b h i = i
 
-  all_ready : (p : ProgramTree) (xs : List ℕ) (es : Trees) → AllKind xs es → AllReady IsKind (Kept p) IsInner IsReady xs es
+  all_ready : (p : ProgramTree) (xs : List ℕ) (es : Trees) → AllKind xs es → AllReady IsKind
+      (Kept p) IsInner IsReady xs es
   all_ready p [] none h = tt
   all_ready p [] (more e es) h = tt
   all_ready p (y ∷ ys) none h = tt
   all_ready p (y ∷ ys) (more e es) h = (h.0, all_ready p ys es h.1)
 
-  within : (k : Option ℕ) (p : Place) (s : ℕ) (f : Form) (e : Tree) → IsAround f → IsInner e → IsReady k (Node p s f) → IsReady k e
+  within : (k : Option ℕ) (p : Place) (s : ℕ) (f : Form) (e : Tree) → IsAround f → IsInner e → IsReady k
+      (Node p s f) → IsReady k e
   within None p s f e a i r = tt
   within (Some y) p s (Let xs es d) e a i r = λ q. i.1 ∙ r q
   within (Some y) p s (Letrec xs ls d) e a i r = λ q. i.1 ∙ r q
@@ -132,10 +136,12 @@ module _ (z : ℕ) (small : z < 2 ^ 31) (want : Bool) where
   kind_let w [] (more e es) h q = tt
   kind_let w (y ∷ ys) none h q = tt
   kind_let w (y ∷ ys) (more e es) h q =
-      let a = times-append z (cond (is_new_cell e) (cond (not w) (y ∷ []) []) (cond (not w) [] (y ∷ []))) (of_kind (not w) ys es) in
+      let a = times-append z (cond (is_new_cell e) (cond (not w) (y ∷ []) []) (cond (not w) [] (y ∷ [])))
+          (of_kind (not w) ys es) in
       (λ t. one w (is_new_cell e) (eq-eqb y z t) (omega arith) ∙ q, kind_let w ys es (omega arith) q)
     where
-      one : (v c : Bool) → (y == z) ≡ true → times z (cond c (cond (not v) (y ∷ []) []) (cond (not v) [] (y ∷ []))) ≡ 0 → c ≡ v
+      one : (v c : Bool) → (y == z) ≡ true → times z (cond c (cond (not v) (y ∷ []) [])
+          (cond (not v) [] (y ∷ []))) ≡ 0 → c ≡ v
       one true true t g = refl
       one true false t g = let u = ap one_if t in absurd (omega arith)
       one false true t g = let u = ap one_if t in absurd (omega arith)
@@ -156,7 +162,8 @@ module _ (z : ℕ) (small : z < 2 ^ 31) (want : Bool) where
 
 -- what a node binds, it binds to a new cell or otherwise
 module _ (z : ℕ) where
-  let_both : (xs : List ℕ) (es : Trees) → length xs ≡ count es → times z xs ≡ times z (of_kind true xs es) + times z (of_kind false xs es)
+  let_both : (xs : List ℕ) (es : Trees) → length xs ≡ count es → times z xs ≡ times z (of_kind true xs es) + times z
+      (of_kind false xs es)
   let_both [] es h = refl
   let_both (y ∷ ys) none h = absurd (omega arith)
   let_both (y ∷ ys) (more e es) h =
@@ -189,7 +196,8 @@ module _ (p : ProgramTree) (order : List Line) (rules : KeepsRules (2 ^ 31) p) (
   bound_few : (z : ℕ) → times z (of_nodes K.binders (all_nodes p)) ≤ 1
   bound_few z =
       let a = apart-times z (K.variables p) rules.bound_once in
-      let b = times-append z (of_nodes K.binders (all_nodes p)) (K.variables p) in few (of_nodes K.binders (all_nodes p)) _ a
+      let b = times-append z (of_nodes K.binders (all_nodes p)) (K.variables p) in few
+          (of_nodes K.binders (all_nodes p)) _ a
     where
       few : (xs ys : List ℕ) → times z (xs ++ ys) ≤ 1 → times z xs ≤ 1
       few xs ys h = let c = times-append z xs ys in omega arith
@@ -198,9 +206,11 @@ module _ (p : ProgramTree) (order : List Line) (rules : KeepsRules (2 ^ 31) p) (
   other_none : (z : ℕ) (want : Bool) → IsIn z (of_nodes (node_kind want) (all_nodes p)) →
       times z (of_nodes (node_kind (not want)) (all_nodes p)) ≡ 0
   other_none z true i =
-      let a = in-times z _ i in let b = nodes_both z (2 ^ 31) p (all_nodes p) rules.nodes in let c = bound_few z in omega arith
+      let a = in-times z _ i in let b = nodes_both z (2 ^ 31) p
+          (all_nodes p) rules.nodes in let c = bound_few z in omega arith
   other_none z false i =
-      let a = in-times z _ i in let b = nodes_both z (2 ^ 31) p (all_nodes p) rules.nodes in let c = bound_few z in omega arith
+      let a = in-times z _ i in let b = nodes_both z (2 ^ 31) p
+          (all_nodes p) rules.nodes in let c = bound_few z in omega arith
 
   kept : (z : ℕ) (small : z < 2 ^ 31) (want : Bool) → IsIn z (of_nodes (node_kind want) (all_nodes p)) →
       Every (Kept z small want p) (all_nodes p)
@@ -208,18 +218,21 @@ module _ (p : ProgramTree) (order : List Line) (rules : KeepsRules (2 ^ 31) p) (
       every-zip _ _ (Kept z small want p) (all_nodes p) (λ d a b. (a, b)) rules.nodes
       (kinds_here z small want (all_nodes p) (other_none z want i))
 
-  kind_bound_there : (z : ℕ) (want : Bool) → IsIn z (of_nodes (node_kind want) (all_nodes p)) → 1 ≤ times z (of_nodes K.binders (all_nodes p))
+  kind_bound_there : (z : ℕ) (want : Bool) → IsIn z (of_nodes (node_kind want) (all_nodes p)) → 1 ≤ times z
+      (of_nodes K.binders (all_nodes p))
   kind_bound_there z true i =
       let a = in-times z _ i in let b = nodes_both z (2 ^ 31) p (all_nodes p) rules.nodes in omega arith
   kind_bound_there z false i =
       let a = in-times z _ i in let b = nodes_both z (2 ^ 31) p (all_nodes p) rules.nodes in omega arith
 
-  pub cells-stay : (z : ℕ) → z < 2 ^ 31 → IsIn z (of_nodes K.cell_binders (all_nodes p)) → IsIn z (N.cells (normal_form p order))
+  pub cells-stay : (z : ℕ) → z < 2 ^ 31 → IsIn z (of_nodes K.cell_binders (all_nodes p)) → IsIn z
+      (N.cells (normal_form p order))
   cells-stay z small i =
       let same = binders-same z small p order (proper-nodes p order rules lines) in
       let there = kind_bound_there z true i in
       kinds_in z small true (all_blocks (normal_form p order))
-      (whole-all (IsKind z small true) (Kept z small true p) IsInner (IsReady z small true) (kind_walks z small true p) p order
+      (whole-all (IsKind z small true) (Kept z small true p) IsInner (IsReady z small true)
+          (kind_walks z small true p) p order
       (kept z small true i) (inner-forms p p.forms rules.forms) (inner-bodies p p.lambdas rules.bodies))
       (times-in z _ (omega arith))
 
@@ -232,7 +245,8 @@ module _ (p : ProgramTree) (order : List Line) (rules : KeepsRules (2 ^ 31) p) (
       ⊎_elim (λ j. h.0 z j) (λ j. members-all has all ds z h.1 j) (in-either z (has (form_of d)) _ i)
 
   -- a body of the program
-  module _ (e : Tree) (inside : (P : Tree → Type 0) → Every P (all_nodes p) → Every P (nodes e)) (value : is_mark e ≡ false)
+  module _ (e : Tree) (inside : (P : Tree → Type 0) → Every P (all_nodes p) → Every P (nodes e))
+      (value : is_mark e ≡ false)
       (no_cell : is_new_cell e ≡ false) where
     pub plain-stay : (z : ℕ) → z < 2 ^ 31 → (n : ℕ) → IsIn z (of_nodes K.plain_binders (nodes e)) →
         IsIn z (of_each N.plain_binders (blocks (block_of (line_of order) n e AtEnd)))
@@ -241,9 +255,11 @@ module _ (p : ProgramTree) (order : List Line) (rules : KeepsRules (2 ^ 31) p) (
         let same = body-binders z small p order proper n e (inside _ proper) in
         let there = in-times z _ i in
         let both = nodes_both z (2 ^ 31) p (nodes e) (inside _ rules.nodes) in
-        let whole = members-all K.plain_binders (all_nodes p) (nodes e) z (inside _ (in-node K.plain_binders (all_nodes p))) i in
+        let whole = members-all K.plain_binders (all_nodes p) (nodes e) z
+            (inside _ (in-node K.plain_binders (all_nodes p))) i in
         kinds_in z small false (blocks (block_of (line_of order) n e AtEnd))
-        (body-all (IsKind z small false) (Kept z small false p) IsInner (IsReady z small false) (kind_walks z small false p)
+        (body-all (IsKind z small false) (Kept z small false p) IsInner (IsReady z small false)
+            (kind_walks z small false p)
         (line_of order) n e (inside _ (kept z small false whole)) (value, no_cell))
         (times-in z _ (omega arith))
 

@@ -30,7 +30,8 @@ some_free I (more e es) y j =
     (λ k. let r = some_free I es y k in (suc r.0, r.1, r.2, r.3, (let lt = r.4 in omega arith)))
     (in-either y (free I e) (free_all I es) j)
 
-module _ (x : Context) (calls : Form → Type 0) (taken : ℕ → List ℕ) (no_fewer : (l y : ℕ) → IsIn y (x.inner l) → IsIn y (taken l))
+module _ (x : Context) (calls : Form → Type 0) (taken : ℕ → List ℕ)
+    (no_fewer : (l y : ℕ) → IsIn y (x.inner l) → IsIn y (taken l))
     (y : ℕ) where
   abbrev Names : Block → Type 0
   Names b = IsIn y (free_block taken b)
@@ -43,17 +44,20 @@ module _ (x : Context) (calls : Form → Type 0) (taken : ℕ → List ℕ) (no_
   put_names AtEnd op i = ⊎_elim (λ j. j) (λ j. absurd j) i
   put_names (Then z b) op i =
       ⊎_elim (in-left y (free_op taken op) _)
-      (λ j. in-right y (free_op taken op) _ (in-without (z ∷ []) (free_block taken b) y j.1 (rw (ne_eqb z y j.0) refl))) i
+      (λ j. in-right y (free_op taken op) _ (in-without (z ∷ []) (free_block taken b) y j.1
+          (rw (ne_eqb z y j.0) refl))) i
 
   abbrev Stays : Tree → Type 0
-  Stays e = (n : ℕ) (k : After) → (IsIn y (names n e) → ⊥) → IsIn y (free x.inner e) ⊎ Behind k → Names (block_of x.line n e k)
+  Stays e = (n : ℕ) (k : After) → (IsIn y (names n e) → ⊥) → IsIn y (free x.inner e) ⊎ Behind k → Names
+      (block_of x.line n e k)
 
   abbrev AllStay : Trees → Type 0
   AllStay none = Unit {0}
   AllStay (more e es) = Stays e × AllStay es
 
   -- an operand before a block that names the variable, and one that is named itself
-  bound_pass : (n : ℕ) (e : Tree) (b : Block) → Stays e → (IsIn y (names n e) → ⊥) → Names b → Names (bound x.line n e b)
+  bound_pass : (n : ℕ) (e : Tree) (b : Block) → Stays e → (IsIn y (names n e) → ⊥) → Names b → Names
+      (bound x.line n e b)
   bound_pass n (Node p s (Quote c)) b u h i = i
   bound_pass n (Node p s (Local z)) b u h i = i
   bound_pass n (Node p s f) b u h i = u n (Then (value_name n) b) h (inr (λ q. h (inl q), i))
@@ -68,7 +72,8 @@ module _ (x : Context) (calls : Form → Type 0) (taken : ℕ → List ℕ) (no_
   AllPass [] = Unit {0}
   AllPass (f ∷ fs) = ((b : Block) → Names b → Names (f b)) × AllPass fs
 
-  one_pass : (fs : List (Block → Block)) → AllPass fs → (i : ℕ) (b : Block) → Names b → Names (around_at (slice_get fs i) b)
+  one_pass : (fs : List (Block → Block)) → AllPass fs → (i : ℕ) (b : Block) → Names b → Names
+      (around_at (slice_get fs i) b)
   unfolding AllPass
   one_pass [] h i b a = a
   one_pass (f ∷ fs) h zero b a = h.0 b a
@@ -88,7 +93,8 @@ module _ (x : Context) (calls : Form → Type 0) (taken : ℕ → List ℕ) (no_
       (g (around fs is b) (λ z. around_pass fs h is b (a z)))
   around_here fs h Z i g (k ∷ is) (inr j) b a = one_pass fs h k (around fs is b) (around_here fs h Z i g is j b a)
 
-  operands_pass : (n : ℕ) (es : Trees) → AllStay es → (IsIn y (names_all n es) → ⊥) → AllPass (bound_operands x.line n es)
+  operands_pass : (n : ℕ) (es : Trees) → AllStay es → (IsIn y (names_all n es) → ⊥) → AllPass
+      (bound_operands x.line n es)
   unfolding AllPass
   operands_pass n none u h = tt
   operands_pass n (more e es) u h = (
@@ -96,7 +102,8 @@ module _ (x : Context) (calls : Form → Type 0) (taken : ℕ → List ℕ) (no_
     operands_pass (n + size e) es u.1 (λ j. h (in-right y (names n e) _ j)),
   )
 
-  operand_here : (n : ℕ) (es : Trees) (i : ℕ) (e : Tree) → tree_at es i ≡ Some e → AllStay es → (IsIn y (names_all n es) → ⊥) →
+  operand_here : (n : ℕ) (es : Trees) (i : ℕ) (e : Tree) → tree_at es i ≡ Some e → AllStay es →
+      (IsIn y (names_all n es) → ⊥) →
       IsIn y (free x.inner e) → (b : Block) → (IsIn y (free_of_atoms (atoms n es)) → Names b) →
       Names (around_at (slice_get (bound_operands x.line n es) i) b)
   operand_here n none i e t u h j b a = cc
@@ -126,19 +133,22 @@ module _ (x : Context) (calls : Form → Type 0) (taken : ℕ → List ℕ) (no_
     named_pass (n + size e) zs es u.1 (λ j. g (inr j)) (λ j. h (in-right y (names n e) _ j)),
   )
 
-  named_here : (n : ℕ) (zs : List ℕ) (es : Trees) (i : ℕ) (e : Tree) → length zs ≡ count es → tree_at es i ≡ Some e → AllStay es →
+  named_here : (n : ℕ) (zs : List ℕ) (es : Trees) (i : ℕ) (e : Tree) → length zs ≡ count es → tree_at es i ≡ Some e →
+      AllStay es →
       (IsIn y (names_all n es) → ⊥) → IsIn y (free x.inner e) → (b : Block) →
       Names (around_at (slice_get (named_operands x.line n zs es) i) b)
   named_here n zs none i e q t u h j b = cc
   named_here n [] (more d es) i e q t u h j b = absurd (omega arith)
   named_here n (z ∷ zs) (more d es) zero e q t u h j b =
-      u.0 n (Then z b) (λ k. h (in-left y (names n d) _ k)) (inl (subst (λ k. IsIn y (free x.inner k)) (sym (same_Some d e t)) j))
+      u.0 n (Then z b) (λ k. h (in-left y (names n d) _ k)) (inl
+          (subst (λ k. IsIn y (free x.inner k)) (sym (same_Some d e t)) j))
   named_here n (z ∷ zs) (more d es) (suc i) e q t u h j b =
       named_here (n + size d) zs es i e (omega arith) t u.1 (λ k. h (in-right y (names n d) _ k)) j b
 
   of_group : (ls : List ℕ) → IsIn y (of_lambdas x.inner ls) → IsIn y (of_lambdas taken ls)
   of_group [] i = i
-  of_group (l ∷ ls) i = ⊎_elim (λ j. in-left y (taken l) _ (no_fewer l y j)) (λ j. in-right y (taken l) _ (of_group ls j))
+  of_group (l ∷ ls) i = ⊎_elim (λ j. in-left y (taken l) _ (no_fewer l y j))
+      (λ j. in-right y (taken l) _ (of_group ls j))
       (in-either y (x.inner l) _ i)
 
   -- one operand, and then an operation
@@ -157,7 +167,8 @@ module _ (x : Context) (calls : Form → Type 0) (taken : ℕ → List ℕ) (no_
       ⊎_elim (λ j. operands_here n es is (put k op) u h per (λ z. put_names k op (inl (a z))) j)
       (λ j. around_pass _ (operands_pass n es u h) is (put k op) (put_names k op (inr j))) i
 
-  sequence_stays : (n : ℕ) (e : Tree) (es : Trees) (k : After) → AllStay (more e es) → (IsIn y (names_all n (more e es)) → ⊥) →
+  sequence_stays : (n : ℕ) (e : Tree) (es : Trees) (k : After) → AllStay (more e es) →
+      (IsIn y (names_all n (more e es)) → ⊥) →
       IsIn y (free_all x.inner (more e es)) ⊎ Behind k → Names (block_of_sequence x.line n (more e es) k)
   sequence_stays n e none k u h i =
       u.0 n k (λ j. h (in-left y (names n e) _ j))
@@ -165,9 +176,11 @@ module _ (x : Context) (calls : Form → Type 0) (taken : ℕ → List ℕ) (no_
   sequence_stays n e (more d ds) k u h i =
       let behind = λ (j : IsIn y (free_all x.inner (more d ds)) ⊎ Behind k).
       sequence_stays (n + size e) d ds k u.1 (λ z. h (in-right y (names n e) _ z)) j in
-      u.0 n (Then (value_name n) (block_of_sequence x.line (n + size e) (more d ds) k)) (λ j. h (in-left y (names n e) _ j))
+      u.0 n (Then (value_name n) (block_of_sequence x.line (n + size e) (more d ds) k))
+          (λ j. h (in-left y (names n e) _ j))
       (⊎_elim
-      (λ j. ⊎_elim inl (λ z. inr (λ q. h (in-left y (names n e) _ (own_name e q)), behind (inl z))) (in-either y (free x.inner e) _ j))
+      (λ j. ⊎_elim inl (λ z. inr (λ q. h (in-left y (names n e) _ (own_name e q)), behind (inl z)))
+          (in-either y (free x.inner e) _ j))
       (λ j. inr (λ q. h (in-left y (names n e) _ (own_name e q)), behind (inr j))) i)
     where
       own_name : (e : Tree) → value_name n ≡ y → IsIn y (names n e)
@@ -256,20 +269,23 @@ module _ (x : Context) (calls : Form → Type 0) (taken : ℕ → List ℕ) (no_
     form_names p s (Seq (more e es)) pr a n k h i = sequence_stays (suc n) e es k (all_names (more e es) a) h i
     form_names p s (Call f es) pr a n k h i =
         some_stay (suc n) (more f es) (numbers (x.line s) (Call f es)) k _
-        (block-names f (every-left _ (nodes f) _ a), all_names es (every-right _ (nodes f) _ a)) h (pr.permuted refl) (λ j. j) i
+        (block-names f (every-left _ (nodes f) _ a), all_names es (every-right _ (nodes f) _ a)) h (pr.permuted refl)
+            (λ j. j) i
     form_names p s (Direct l es) pr a n k h i =
         some_stay (suc n) es (numbers (x.line s) (Direct l es)) k _ (all_names es a) h (pr.permuted refl) (λ j. j) i
     form_names p s (PrimUse q es) pr a n k h i =
         some_stay (suc n) es (numbers (x.line s) (PrimUse q es)) k _ (all_names es a) h (pr.permuted refl) (λ j. j) i
     form_names p s (Apply f l) pr a n k h i =
         some_stay (suc n) (more f (more l none)) (numbers (x.line s) (Apply f l)) k _
-        (block-names f (every-left _ (nodes f) _ a), (block-names l (every-right _ (nodes f) _ a), tt)) h (pr.permuted refl)
+        (block-names f (every-left _ (nodes f) _ a), (block-names l (every-right _ (nodes f) _ a), tt)) h
+            (pr.permuted refl)
         (λ j. ⊎_elim (in-left y (free_of_atom (atom (suc n) f)) _)
         (λ z. in-right y (free_of_atom (atom (suc n) f)) _
         (⊎_elim (λ v. v) (λ v. absurd v) (in-either y (free_of_atom (atom (suc n + size f) l)) [] z)))
         (in-either y (free_of_atom (atom (suc n) f)) _ j))
         (⊎_elim (λ j. inl (⊎_elim (in-left y (free x.inner f) _)
-        (λ z. in-right y (free x.inner f) _ (in-left y (free x.inner l) [] z)) (in-either y (free x.inner f) _ j))) inr i)
+        (λ z. in-right y (free x.inner f) _ (in-left y (free x.inner l) [] z))
+            (in-either y (free x.inner f) _ j))) inr i)
 
     all_names : (es : Trees) → Every (ProperNode x calls) (nodes_of es) → AllStay es
     all_names none a = tt

@@ -52,7 +52,8 @@ module _ (P : Op → Type 0) (D : Tree → Type 0)
   all_ready (y ∷ ys) none = tt
   all_ready (y ∷ ys) (more e es) = (tt, all_ready ys es)
 
-  pub operations-have : (p : ProgramTree) (order : List Line) → Every D (all_nodes p) → Every P (operations (normal_form p order))
+  pub operations-have : (p : ProgramTree) (order : List Line) → Every D (all_nodes p) → Every P
+      (operations (normal_form p order))
   operations-have p order h =
       each-every P operation (all_blocks (normal_form p order))
       (whole-all OfBlock D Anything Always (record {
@@ -75,7 +76,8 @@ module _ (n : ℕ) where
   few p s f op (of_direct m l es) d h = let c = atoms-count m es in omega arith
   few p s f op m d h = omega arith
 
-  pub passes-few : (p : ProgramTree) (order : List Line) → Every (λ e. count (passed_at (form_of e)) ≤ n) (all_nodes p) →
+  pub passes-few : (p : ProgramTree) (order : List Line) → Every (λ e. count (passed_at (form_of e)) ≤ n)
+      (all_nodes p) →
       Every PassesFew (operations (normal_form p order))
   passes-few = operations-have PassesFew (λ e. count (passed_at (form_of e)) ≤ n) few
 
@@ -91,7 +93,8 @@ module _ (n : ℕ) where
         let e = here (h 0 c refl) in
         (omega arith, lambdas_few (suc l) (m + size c.body) ms (λ k b e. later k b (h (suc k) b e)))
       where
-        here : length (parameters c) + length (added_to p.set (l + 0)) ≤ n → length (parameters c) + length (added_to p.set l) ≤ n
+        here : length (parameters c) + length (added_to p.set (l + 0)) ≤ n → length (parameters c) + length
+            (added_to p.set l) ≤ n
         here g = subst (λ z. length (parameters c) + length (added_to p.set z) ≤ n) (same l) g
           where
             same : (i : ℕ) → i + 0 ≡ i
@@ -110,7 +113,8 @@ module _ (n : ℕ) where
     procs_few m (more (Node u s f) es) qs h = (omega arith, procs_few (m + size (Node u s f)) es qs h)
 
   pub parameters-few : (p : ProgramTree) (order : List Line) → ((l : ℕ) (c : LambdaTree) → IsLambda p l c →
-      length (parameters c) + length (added_to p.set l) ≤ n) → Every (λ (q : ProcTree). length q.params ≤ n) (normal_form p order).procs
+      length (parameters c) + length (added_to p.set l) ≤ n) → Every (λ (q : ProcTree). length q.params ≤ n)
+          (normal_form p order).procs
   parameters-few p order h =
       procs_few p (line_of order) 0 p.forms _ (lambdas_few p (line_of order) 0 (size_all p.forms) p.lambdas
       (λ k c e. subst (λ z. length (parameters c) + length (added_to p.set z) ≤ n) (same k) (h k c e)))
@@ -162,12 +166,14 @@ module _ (test : Const → Bool) where
   comes p u s f op (of_apply n i g l) d h =
       every-append _ (constant (atom n g)) _ (atom_passes p n g h.0) (one_passes p i l h.1.0)
 
-  kept : (p : ProgramTree) (ds : List Tree) → Every (NodeKeeps (2 ^ 31) p) ds → Passes (of_nodes quoted ds) → Every (Kept p) ds
+  kept : (p : ProgramTree) (ds : List Tree) → Every (NodeKeeps (2 ^ 31) p) ds → Passes (of_nodes quoted ds) → Every
+      (Kept p) ds
   kept p [] h i = tt
   kept p (d ∷ ds) h i =
       ((h.0, every-left _ (quoted (form_of d)) _ i), kept p ds h.1 (every-right _ (quoted (form_of d)) _ i))
 
-  pub constants-pass : (p : ProgramTree) (order : List Line) → KeepsRules (2 ^ 31) p → Passes (of_nodes quoted (all_nodes p)) →
+  pub constants-pass : (p : ProgramTree) (order : List Line) → KeepsRules (2 ^ 31) p → Passes
+      (of_nodes quoted (all_nodes p)) →
       Passes (of_each constants (operations (normal_form p order)))
   constants-pass p order rules h =
       each-every (λ c. test c ≡ true) constants (operations (normal_form p order))

@@ -228,7 +228,8 @@ module _ (P : Block → Type 0) (D Inner : Tree → Type 0) (Ready : Option ℕ 
     body-all n e h i = tree-all e h n AtEnd (w.at_end e i) tt
 
 -- what holds of the blocks of each body holds of all blocks of the normal form
-module _ (P : Block → Type 0) (D Inner : Tree → Type 0) (Ready : Option ℕ → Tree → Type 0) (w : Walks P D Inner Ready) (p : ProgramTree)
+module _ (P : Block → Type 0) (D Inner : Tree → Type 0) (Ready : Option ℕ → Tree → Type 0)
+    (w : Walks P D Inner Ready) (p : ProgramTree)
     (order : List Line) where
   forms_all : (n : ℕ) (es : Trees) → Every D (nodes_of es) → AllOf Inner es →
       Every P (blocks_of (form_procs (line_of order) n es))
