@@ -1,16 +1,16 @@
 -- In what data mean the mark stands for variables that are assigned, and the variables of a `letrec` are not assigned
 -- in it.
-use Rattle.std.proofs.Common.{◌≡◌, ◌≢◌, refl, sym, ap, subst, ◌∙◌, ℕ, ◌+◌, ◌≤◌, ◌&&◌, ◌||◌, not, arith, Bool, true, false, cond, List, [], ◌∷◌, ◌++◌, length, Option, Some, None}
+use Rattle.std.proofs.Common.{◌≡◌, refl, sym, ap, subst, ◌∙◌, ℕ, ◌+◌, ◌≤◌, ◌||◌, not, arith, Bool, true, false, List, [], ◌∷◌, ◌++◌, length, Option, Some, None}
 use Rattle.tb_prim.specs.declared.place.Place.{Place}
 use Rattle.tb_core.specs.Rules.{Every}
 use Rattle.tb_sexp.specs.Tree as datum
 use Rattle.tb_expand.specs.declared.context.Context.{Context}
-use Rattle.tb_expand.specs.Names.{Binder, names, bound_twice}
-use Rattle.tb_expand.specs.Trees.{Var, same_var, variables, Node, At, Core, Constant, Unspecified, Undefined, Local, Global, Lambda, If, SetLocal, SetGlobal, DefGlobal, Let, Letrec, Seq, Call, PrimUse, Apply, Nodes, nil, cons, joined, how_many, is_lambda, assigns, assigns_in, assigns_any}
+use Rattle.tb_expand.specs.Names.{names, bound_twice}
+use Rattle.tb_expand.specs.Trees.{Var, same_var, variables, Node, At, Core, Local, Global, Let, Letrec, Nodes, nil, cons, joined, how_many, is_lambda, assigns, assigns_in, assigns_any}
 use Rattle.tb_expand.specs.Splits.{Bindings, binding_if, is_steady, chosen, split, assigned_before, in_order, letrec_round, let_round, undefined, node_of}
 use Rattle.tb_expand.specs.Scopes.{State, fresh}
-use Rattle.tb_expand.specs.Shapes.{Formals, Defined, parameters}
-use Rattle.tb_expand.specs.Expressions.{Build, Choosing, ChoosingOne, AssigningLocal, AssigningGlobal, Using, ApplyingTo, Calling, built, expression}
+use Rattle.tb_expand.specs.Shapes.{Formals, Defined}
+use Rattle.tb_expand.specs.Expressions.{Build, Choosing, ChoosingOne, AssigningLocal, AssigningGlobal, Using, ApplyingTo, Calling, built}
 use Rattle.tb_expand.specs.Means.{Means, MeansAll, MeansSequence, MeansLambda, MeansDefined, MeansEach, MeansBody}
 use Rattle.tb_expand.specs.Means.{a_constant, a_name, operands, a_sequence, a_lambda, a_let, a_letrec, no_more, one_more, alone, several, closure, a_value, a_procedure, none_defined, one_defined, plain_body, defining_body}
 use Rattle.tb_expand.specs.Texts.{MeansForm, MeansForms, MeansText, an_expression, a_global, forms_of_begin, no_form, one_form, a_text}
@@ -22,7 +22,7 @@ use Rattle.tb_expand.proofs.NamedVariables.{count, own_held, every_mapped}
 use Rattle.tb_expand.proofs.SplitCounts.{chosen_even, both_bound}
 use Rattle.tb_expand.proofs.GoodExpressions.{IsGood, IsGoodName, good_expression}
 use Rattle.tb_expand.proofs.BoundMeanings.{variables_once, found_once}
-use Rattle.tb_expand.proofs.Steady.{marked, NoneMarked, MarksPass, IsSteady, IsSteadyIn, AreSteady}
+use Rattle.tb_expand.proofs.Steady.{marked, NoneMarked, MarksPass, IsSteady, AreSteady}
 
 -- whether a node assigns a variable that it binds
 abbrev pub own_assigns : Core → Var → Bool

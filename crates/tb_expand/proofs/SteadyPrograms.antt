@@ -1,14 +1,13 @@
 -- Nodes that are steady by what they assign themselves are so by what the whole text assigns.
-use Rattle.std.proofs.Common.{◌≡◌, refl, sym, ap, subst, ◌∙◌, ℕ, ◌+◌, ◌≤◌, ◌||◌, arith, Bool, true, false, cond, List, [], ◌∷◌, ◌++◌, length}
-use Rattle.tb_prim.specs.declared.place.Place.{Place}
+use Rattle.std.proofs.Common.{◌≡◌, refl, ap, ◌∙◌, ℕ, ◌+◌, ◌≤◌, ◌||◌, arith, Bool, true, false, List, [], ◌∷◌, ◌++◌}
 use Rattle.tb_core.specs.Rules.{Every}
 use Rattle.tb_expand.specs.Shapes.{option_list}
 use Rattle.tb_expand.specs.Trees.{Var, same_var, Node, At, Core, Constant, Unspecified, Undefined, Local, Global, Lambda, If, SetLocal, SetGlobal, DefGlobal, Let, Letrec, Seq, Call, PrimUse, Apply, Nodes, nil, cons, assigns, assigns_in, assigns_any}
-use Rattle.tb_expand.specs.Closed.{binders_of, binders_in, binders_of_all, is_bound, IsClosed, IsClosedIn, AreClosed, one_if, times}
+use Rattle.tb_expand.specs.Closed.{binders_of, binders_in, binders_of_all, is_bound, IsClosed, IsClosedIn, AreClosed, one_if}
 use Rattle.tb_expand.proofs.Times.{times_joined}
 use Rattle.tb_expand.proofs.FirstOccurrences.{same_var_true}
 use Rattle.tb_expand.proofs.NamedVariables.{count, own_held, bound_held, every_mapped, assigned_held, all_assigned_held}
-use Rattle.tb_expand.proofs.Steady.{marked, NoneMarked, MarksPass, IsSteady, IsSteadyIn, AreSteady}
+use Rattle.tb_expand.proofs.Steady.{MarksPass, IsSteady, IsSteadyIn, AreSteady}
 use Rattle.tb_expand.proofs.SteadyMeanings.{own_assigns, or_most, or_first, or_second}
 
 pub bool_same : (a b : Bool) → one_if a ≡ one_if b → a ≡ b
