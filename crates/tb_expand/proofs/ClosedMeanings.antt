@@ -233,9 +233,10 @@ mutual
       let inmid = still_in st mid c.scope o.scopes le in
       let onmid = same_covers xs st mid c.scope o.scopes h in
       let r = all_means_counted m in
-      let longer = r.grows.longer in
-      (all_closed m xs inmid onmid,
-      body_closed b (variables (fresh far) (names ps.binders) ++ xs) (omega arith) (new_covers far c.scope ps.binders xs (covers_grown xs mid far c.scope r.grows inmid onmid)))
+      let longer = r.grows.longer in (
+        all_closed m xs inmid onmid,
+        body_closed b (variables (fresh far) (names ps.binders) ++ xs) (omega arith) (new_covers far c.scope ps.binders xs (covers_grown xs mid far c.scope r.grows inmid onmid)),
+      )
   means_closed (a_letrec {st = st} {mid = mid} {far = far} {c = c} {p = p} {s = s} {ps = ps} {es = es} {e = e} k a m b l) xs le h =
       let ys = variables (fresh mid) (names ps.binders) in
       let all = split_bound ys es (cons e nil) xs in

@@ -97,7 +97,7 @@ module _ (t : Tables) where
         let i = node_free (one_closure b) e l.behind ((ys ++ option_list r) ++ xs) h o l.agrees in
         let j = among_bound (ys ++ option_list r) xs (free l.behind (numbered t (one_closure b) e)) i in
         let q : without (numbers (ys ++ option_list r)) (free l.behind (numbered t (one_closure b) e)) ≡ inner b.closures =
-          ap (λ v. without v (free l.behind (numbered t (one_closure b) e))) (sym (parameters_numbered ys r)) ∙ sym l.first_is in
+        ap (λ v. without v (free l.behind (numbered t (one_closure b) e))) (sym (parameters_numbered ys r)) ∙ sym l.first_is in
         subst (Among (numbers xs)) q j
     form_free b p (If c d e) inner xs h o k =
         let b2 = behind_node b c in

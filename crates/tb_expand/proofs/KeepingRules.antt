@@ -200,5 +200,5 @@ text_keeps library ds es m =
       forms = forms_keep p n few (forms_below library es) (forms_within library es short) (forms_in_range library es) (forms_name library es shape) (forms_keep_shape library es shape) (forms_marked library ds es m);
       values = no_marks library ds es m;
       lambdas = lambdas_keep p 0 p.lambdas
-      (bodies_keep p n few (all_lambdas_below library es) (all_lambdas_within library es short) (all_lambdas_in_range library es) (bodies_name library es shape) (lambdas_keep_shape library es shape) (bodies_marked p 0 p.lambdas marked)) marked;
+          (bodies_keep p n few (all_lambdas_below library es) (all_lambdas_within library es short) (all_lambdas_in_range library es) (bodies_name library es shape) (lambdas_keep_shape library es shape) (bodies_marked p 0 p.lambdas marked)) marked;
     }

@@ -280,9 +280,10 @@ mutual
   form_greater t b p Undefined = tt
   form_greater t b p (Local v) = tt
   form_greater t b p (Global g) = tt
-  form_greater t b p (Lambda xs r e) =
-      (every_weaker b.closures (b.closures + 1) _ (omega arith) (inner_above t (one_closure b) e (b.closures + 1) (omega arith)),
-      subst (λ k. InnerAreGreater k (lambdas_of t (one_closure b) e)) (omega arith) (node_greater t (one_closure b) e))
+  form_greater t b p (Lambda xs r e) = (
+    every_weaker b.closures (b.closures + 1) _ (omega arith) (inner_above t (one_closure b) e (b.closures + 1) (omega arith)),
+    subst (λ k. InnerAreGreater k (lambdas_of t (one_closure b) e)) (omega arith) (node_greater t (one_closure b) e),
+  )
   form_greater t b p (If a c d) =
       let b2 = behind_node b a in
       let b3 = behind_node b2 c in

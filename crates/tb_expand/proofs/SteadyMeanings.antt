@@ -140,11 +140,11 @@ before_each p [] vs es n = tt
 before_each p (x ∷ xs) nil es n = absurd (omega arith)
 before_each p (x ∷ xs) (cons v vs) es n = (
   let i = or_first (same_var x x || assigns x v) (assigns_any x (assigned_before p xs vs es)) in
-  let j = or_first (same_var x x) (assigns x v) in
-  let k : one_if (same_var x x) ≡ 1 = ap one_if (same_var_itself x) in
-  omega arith,
+      let j = or_first (same_var x x) (assigns x v) in
+      let k : one_if (same_var x x) ≡ 1 = ap one_if (same_var_itself x) in
+      omega arith,
   every_mapped (λ y. 1 ≤ one_if (assigns_any y (assigned_before p xs vs es))) (λ y. 1 ≤ one_if (assigns_any y (assigned_before p (x ∷ xs) (cons v vs) es)))
-  (λ y h. let k = or_second (same_var x y || assigns y v) (assigns_any y (assigned_before p xs vs es)) in omega arith) xs (before_each p xs vs es (omega arith)),
+      (λ y h. let k = or_second (same_var x y || assigns y v) (assigns_any y (assigned_before p xs vs es)) in omega arith) xs (before_each p xs vs es (omega arith)),
 )
 
 -- nodes of parts
@@ -195,8 +195,13 @@ order_steady p (cons e (cons f es)) h n = record { steady = (n, h); plain = refl
 letrec_steady : (p : Place) (xs : List Var) (vs : Nodes) (e : Node) → Every (λ x. one_if (assigns_any x vs) + one_if (assigns x e) ≤ 0) xs → AreSteady own_assigns vs → Steadily e → Steadily (letrec_round p xs vs e)
 letrec_steady p [] vs e n h k = k
 letrec_steady p (x ∷ xs) vs e n h k = record {
-  steady = (every_mapped (λ x. one_if (assigns_any x vs) + one_if (assigns x e) ≤ 0) (λ x. own_assigns (Letrec (x ∷ xs) vs e) x ≡ false)
-  (λ y g. let m = or_most (assigns_any y vs) (assigns y e) in none_true (assigns_any y vs || assigns y e) (omega arith)) (x ∷ xs) n, k.plain, h, k.steady);
+  steady = (
+    every_mapped (λ x. one_if (assigns_any x vs) + one_if (assigns x e) ≤ 0) (λ x. own_assigns (Letrec (x ∷ xs) vs e) x ≡ false)
+        (λ y g. let m = or_most (assigns_any y vs) (assigns y e) in none_true (assigns_any y vs || assigns y e) (omega arith)) (x ∷ xs) n,
+    k.plain,
+    h,
+    k.steady,
+  );
   plain = refl;
 }
 
@@ -213,9 +218,14 @@ let_steady p [] e n k = k
 let_steady p (x ∷ xs) e n k =
     let es = undefined p (x ∷ xs) in
     record {
-      steady = (undefined_pass (own_assigns (Let (x ∷ xs) es e)) p (x ∷ xs)
-      (every_mapped (λ x. 1 ≤ one_if (assigns x e)) (λ y. own_assigns (Let (x ∷ xs) es e) y ≡ true)
-      (λ y g. let m = or_second (assigns_any y es) (assigns y e) in one_true (assigns_any y es || assigns y e) (omega arith)) (x ∷ xs) n), k.plain, undefined_steady p (x ∷ xs), k.steady);
+      steady = (
+        undefined_pass (own_assigns (Let (x ∷ xs) es e)) p (x ∷ xs)
+            (every_mapped (λ x. 1 ≤ one_if (assigns x e)) (λ y. own_assigns (Let (x ∷ xs) es e) y ≡ true)
+            (λ y g. let m = or_second (assigns_any y es) (assigns y e) in one_true (assigns_any y es || assigns y e) (omega arith)) (x ∷ xs) n),
+        k.plain,
+        undefined_steady p (x ∷ xs),
+        k.steady,
+      );
       plain = refl;
     }
 
@@ -232,22 +242,22 @@ split_steady p xs vs es once h k =
     let ordered = order_steady p body (before_steady p o.variables o.values es (chosen_kept false parts xs vs h.steady) (chosen_plain false parts xs vs h.plain) k.steady) (before_plain p o.variables o.values es k.plain) in
     let there : Every (λ y. 1 ≤ count y [] + count y (t.variables ++ [])) t.variables = own_held [] t.variables [] in
     let free : Every (λ x. one_if (assigns_any x t.values) + one_if (assigns x (in_order p body)) ≤ 0) t.variables =
-      every_both (λ y. 1 ≤ count y [] + count y (t.variables ++ [])) (Unassigned parts) (λ x. one_if (assigns_any x t.values) + one_if (assigns x (in_order p body)) ≤ 0)
-      (λ y one none.
-      let apart = both_bound (same_var y) parts xs vs in
-      let all = once y in
-      let nothing = times_joined (same_var y) t.variables [] in
-      let a = chosen_assigns y true parts xs vs in
-      let b = chosen_assigns y false parts xs vs in
-      let c = before_most y p o.variables o.values es in
-      let d = those_count y o.variables in
-      let e = order_same y p body in
-      let f = assigned_joined y vs es in
-      let g = assigned_behind y vs es in
-      omega arith) t.variables there (together_steady parts xs vs) in
+    every_both (λ y. 1 ≤ count y [] + count y (t.variables ++ [])) (Unassigned parts) (λ x. one_if (assigns_any x t.values) + one_if (assigns x (in_order p body)) ≤ 0)
+    (λ y one none.
+    let apart = both_bound (same_var y) parts xs vs in
+    let all = once y in
+    let nothing = times_joined (same_var y) t.variables [] in
+    let a = chosen_assigns y true parts xs vs in
+    let b = chosen_assigns y false parts xs vs in
+    let c = before_most y p o.variables o.values es in
+    let d = those_count y o.variables in
+    let e = order_same y p body in
+    let f = assigned_joined y vs es in
+    let g = assigned_behind y vs es in
+    omega arith) t.variables there (together_steady parts xs vs) in
     let around = letrec_steady p t.variables t.values (in_order p body) free (chosen_kept true parts xs vs h.steady) ordered in
     let each = every_mapped (λ y. 1 ≤ one_if (assigns_any y body)) (λ y. 1 ≤ one_if (assigns y (letrec_round p t.variables t.values (in_order p body))))
-      (λ y g. let a = order_same y p body in let b = letrec_least y p t.variables t.values (in_order p body) in omega arith) o.variables (before_each p o.variables o.values es (chosen_even false parts xs vs)) in
+    (λ y g. let a = order_same y p body in let b = letrec_least y p t.variables t.values (in_order p body) in omega arith) o.variables (before_each p o.variables o.values es (chosen_even false parts xs vs)) in
     let_steady p o.variables (letrec_round p t.variables t.values (in_order p body)) each around
 
 -- the node of its parts
