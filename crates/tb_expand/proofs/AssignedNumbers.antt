@@ -1,15 +1,14 @@
 -- A numbered program assigns the variables that its nodes assign.
 use Rattle.std.proofs.Common.{◌≡◌, refl, sym, ap, subst, ◌∙◌, ℕ, ◌+◌, ◌==◌, nat_le, arith, Bool, true, false, List, [], ◌∷◌, ◌++◌, eqb-true, eq-eqb}
-use Rattle.std.specs.List.{list_any}
 use Rattle.tb_prim.specs.declared.place.Place.{Place}
 use Rattle.tb_core.specs.Tree.{LambdaTree}
 use Rattle.tb_core.specs.Rules.{Every}
-use Rattle.tb_core.specs.FreeVariables.{is_in, targets, targets_form, targets_all, targets_of_lambdas, is_assigned}
+use Rattle.tb_core.specs.FreeVariables.{targets, targets_form, targets_all, targets_of_lambdas, is_assigned}
 use Rattle.tb_expand.specs.Trees.{Var, same_var, Node, At, Core, Constant, Unspecified, Undefined, Local, Global, Lambda, If, SetLocal, SetGlobal, DefGlobal, Let, Letrec, Seq, Call, PrimUse, Apply, Nodes, nil, cons, is_lambda, assigns_any}
-use Rattle.tb_expand.specs.Numbers.{Tables, Before, variables_of_all, variable_number, behind_node, behind_nodes, behind_values, one_node, one_closure, numbered, numbered_in, numbered_all, lambdas_of, lambdas_in, lambdas_of_all, lambdas_of_values, tables_of, none_before, program_of}
+use Rattle.tb_expand.specs.Numbers.{Tables, Before, variable_number, behind_node, behind_nodes, behind_values, one_node, one_closure, numbered, numbered_in, numbered_all, lambdas_of, lambdas_in, lambdas_of_all, lambdas_of_values, tables_of, none_before, program_of}
 use Rattle.tb_expand.specs.WellShaped.{AreLambdas, HasShape, HasShapeIn, HaveShape}
 use Rattle.tb_expand.specs.Closed.{one_if, times}
-use Rattle.tb_expand.specs.calls.Splitting.{assigned_of, assigned_in, assigned_all, is_one}
+use Rattle.tb_expand.specs.calls.Splitting.{assigned_of, assigned_in, assigned_all}
 use Rattle.tb_expand.proofs.SplitLists.{assigned_found_all}
 use Rattle.tb_expand.proofs.FirstOccurrences.{HasNumber, have_numbers, number_once, same_var_true, same_var_itself}
 use Rattle.tb_expand.proofs.NamedVariables.{all_assigned_keep}

@@ -1,26 +1,26 @@
 -- What data mean binds each variable once: each scope has a number of its own, and binds no name twice.
-use Rattle.std.proofs.Common.{◌≡◌, refl, sym, ap, subst, ◌∙◌, ℕ, ◌+◌, ◌≤◌, ◌==◌, ◌&&◌, nat_le, ⊎_elim, arith, Bool, true, false, cond, List, [], ◌∷◌, ◌++◌, length, Option, Some, None, eqb-true}
+use Rattle.std.proofs.Common.{◌≡◌, refl, sym, ap, subst, ◌∙◌, ℕ, ◌+◌, ◌≤◌, ◌==◌, ◌&&◌, ⊎_elim, arith, Bool, true, false, cond, List, [], ◌∷◌, ◌++◌, length, Option, Some, None, eqb-true}
 use Rattle.std.proofs.lemmas.Bool.{cases_Bool, leb-false}
 use Rattle.tb_prim.specs.declared.place.Place.{Place}
 use Rattle.tb_sexp.specs.Tree as datum
 use Rattle.tb_expand.specs.declared.context.Context.{Context}
 use Rattle.tb_expand.specs.Names.{Name, same_name, is_among, Binder, names, again, bound_twice}
-use Rattle.tb_expand.specs.Trees.{Var, same_var, variables, Node, Core, Nodes, nil, cons}
+use Rattle.tb_expand.specs.Trees.{Var, same_var, variables, Node, Nodes, nil, cons}
 use Rattle.tb_expand.specs.Splits.{split}
 use Rattle.tb_expand.specs.Scopes.{Scope, State, fresh, enter}
 use Rattle.tb_expand.specs.Shapes.{Formals, Defined, parameters, option_list}
-use Rattle.tb_expand.specs.Expressions.{follows, built, expression}
+use Rattle.tb_expand.specs.Expressions.{follows}
 use Rattle.tb_expand.specs.Bodies.{Found, Scans, scanned, expressions, a_definition, a_begin}
 use Rattle.tb_expand.specs.Means.{fixed_variables, rest_variable, lambda_nodes, Means, MeansAll, MeansSequence, MeansLambda, MeansDefined, MeansEach, MeansBody}
 use Rattle.tb_expand.specs.Means.{a_constant, a_name, operands, a_sequence, a_lambda, a_let, a_letrec, no_more, one_more, alone, several, closure, a_value, a_procedure, none_defined, one_defined, plain_body, defining_body}
 use Rattle.tb_expand.specs.Texts.{MeansForm, MeansForms, MeansText, an_expression, a_global, forms_of_begin, no_form, one_form, a_text}
-use Rattle.tb_expand.specs.Closed.{binders_of, binders_in, binders_of_all, one_if, times}
+use Rattle.tb_expand.specs.Closed.{binders_of, binders_of_all, one_if, times}
 use Rattle.tb_expand.proofs.Times.{times_joined, any_times, past, past_at, past_below, past_more, past_least}
 use Rattle.tb_expand.proofs.FirstOccurrences.{same_name_true, same_var_true}
 use Rattle.tb_expand.proofs.NamedVariables.{count}
 use Rattle.tb_expand.proofs.SplitCounts.{split_binds}
 use Rattle.tb_expand.proofs.GoodExpressions.{IsGood, good_expression}
-use Rattle.tb_expand.proofs.CountedMeanings.{Steps, opened_steps, counted_steps, bound_steps, finished_steps, constant_steps, IsBuilt, built_counted, name_counted, parameters_listed, binders_joined}
+use Rattle.tb_expand.proofs.CountedMeanings.{opened_steps, counted_steps, bound_steps, finished_steps, constant_steps, IsBuilt, built_counted, name_counted, parameters_listed, binders_joined}
 
 -- names that are bound together are different
 abbrev name_count : Name → List Name → ℕ

@@ -1,7 +1,6 @@
 -- The variables that a numbered program binds are those that its nodes bind, each once and with a small number.
-use Rattle.std.proofs.Common.{◌≡◌, refl, sym, ap, subst, ◌∙◌, ℕ, ◌+◌, ◌<◌, ◌≤◌, ◌^◌, ⊎_elim, arith, ◌==◌, nat_le, Bool, true, false, List, [], ◌∷◌, ◌++◌, length, map, Option, Some, None, eqb-true}
-use Rattle.std.proofs.lemmas.List.{map-append}
-use Rattle.std.proofs.lemmas.Bool.{cases_Bool, leb-false, lt-leb, cases_lt}
+use Rattle.std.proofs.Common.{◌≡◌, refl, sym, ap, subst, ◌∙◌, ℕ, ◌+◌, ◌<◌, ◌≤◌, ◌^◌, ⊎_elim, arith, ◌==◌, nat_le, Bool, true, false, List, [], ◌∷◌, ◌++◌, length, Option, Some, None, eqb-true}
+use Rattle.std.proofs.lemmas.Bool.{cases_Bool, leb-false, lt-leb}
 use Rattle.tb_prim.specs.declared.place.Place.{Place}
 use Rattle.tb_semantics.specs.Graph.{IsApart}
 use Rattle.tb_core.specs.Tree as core
@@ -10,7 +9,7 @@ use Rattle.tb_core.specs.Rules.{Every}
 use Rattle.tb_core.specs.Variables.{bound, bound_form, bound_all, bound_in_lambdas, variables}
 use Rattle.tb_expand.specs.Shapes.{option_list}
 use Rattle.tb_expand.specs.Trees.{Var, same_var, Node, At, Core, Constant, Unspecified, Undefined, Local, Global, Lambda, If, SetLocal, SetGlobal, DefGlobal, Let, Letrec, Seq, Call, PrimUse, Apply, Nodes, nil, cons, is_lambda}
-use Rattle.tb_expand.specs.Numbers.{Tables, Before, variables_of_all, variable_number, variable_numbers, option_number, lambda_numbers, behind_node, behind_nodes, behind_values, one_node, one_closure, numbered, numbered_in, numbered_all, numbered_lambda, lambdas_of, lambdas_in, lambdas_of_all, lambdas_of_values, tables_of, none_before, program_of}
+use Rattle.tb_expand.specs.Numbers.{Tables, Before, variable_number, variable_numbers, option_number, behind_node, behind_nodes, behind_values, one_node, one_closure, numbered, numbered_in, numbered_all, numbered_lambda, lambdas_of, lambdas_in, lambdas_of_all, lambdas_of_values, tables_of, none_before, program_of}
 use Rattle.tb_expand.specs.WellShaped.{AreLambdas, HasShape, HasShapeIn, HaveShape}
 use Rattle.tb_expand.specs.Closed.{binders_of, binders_in, binders_of_all, AreClosed, one_if, times}
 use Rattle.tb_expand.proofs.StaticObjects.{found_below}

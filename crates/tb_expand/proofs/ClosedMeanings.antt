@@ -1,19 +1,18 @@
 -- What data mean names only variables that are visible where it stands.
-use Rattle.std.proofs.Common.{◌≡◌, refl, sym, ap, subst, ◌∙◌, ℕ, ◌+◌, ◌≤◌, ◌==◌, ◌&&◌, ◌||◌, not, ⊎_elim, arith, Bool, true, false, cond, List, [], ◌∷◌, ◌++◌, length, Option, Some, None, eq-eqb, length-append}
-use Rattle.std.specs.List.{list_any}
+use Rattle.std.proofs.Common.{◌≡◌, refl, sym, ap, subst, ◌∙◌, ℕ, ◌+◌, ◌≤◌, ◌||◌, not, arith, Bool, true, false, cond, List, [], ◌∷◌, ◌++◌, length, Option, Some, None, eq-eqb, length-append}
 use Rattle.std.proofs.lemmas.List.Folds.{list_any-append}
 use Rattle.tb_prim.specs.declared.place.Place.{Place}
 use Rattle.tb_core.specs.Rules.{Every}
 use Rattle.tb_sexp.specs.Tree as datum
 use Rattle.tb_expand.specs.declared.context.Context.{Context}
 use Rattle.tb_expand.specs.Names.{Name, same_name, is_among, Binder, names}
-use Rattle.tb_expand.specs.Trees.{Var, same_var, variables, Node, At, Core, Constant, Unspecified, Undefined, Local, Global, Lambda, If, SetLocal, SetGlobal, DefGlobal, Let, Letrec, Seq, Call, PrimUse, Apply, Nodes, nil, cons, joined, how_many}
+use Rattle.tb_expand.specs.Trees.{Var, same_var, variables, Node, Core, Local, Global, Nodes, nil, cons, joined, how_many}
 use Rattle.tb_expand.specs.Splits.{Bindings, binding_if, is_steady, chosen, split, assigned_before, in_order, letrec_round, let_round, undefined, node_of}
 use Rattle.tb_expand.specs.Scopes.{Scope, State, binding, fresh, enter}
-use Rattle.tb_expand.specs.Shapes.{Formals, Defined, parameters, option_list}
-use Rattle.tb_expand.specs.Expressions.{Naming, Operands, Build, Choosing, ChoosingOne, AssigningLocal, AssigningGlobal, Using, ApplyingTo, Calling, built, expression}
+use Rattle.tb_expand.specs.Shapes.{Formals, Defined, parameters}
+use Rattle.tb_expand.specs.Expressions.{Build, Choosing, ChoosingOne, AssigningLocal, AssigningGlobal, Using, ApplyingTo, Calling, built}
 use Rattle.tb_expand.specs.Bodies.{Found, Scans, scanned, expressions, a_definition, a_begin}
-use Rattle.tb_expand.specs.Means.{fixed_variables, rest_variable, lambda_nodes, Means, MeansAll, MeansSequence, MeansLambda, MeansDefined, MeansEach, MeansBody}
+use Rattle.tb_expand.specs.Means.{lambda_nodes, Means, MeansAll, MeansSequence, MeansLambda, MeansDefined, MeansEach, MeansBody}
 use Rattle.tb_expand.specs.Means.{a_constant, a_name, operands, a_sequence, a_lambda, a_let, a_letrec, no_more, one_more, alone, several, closure, a_value, a_procedure, none_defined, one_defined, plain_body, defining_body}
 use Rattle.tb_expand.specs.Texts.{MeansForm, MeansForms, MeansText, an_expression, a_global, forms_of_begin, no_form, one_form, a_text}
 use Rattle.tb_expand.specs.Limits.{how_many_data}
@@ -21,9 +20,8 @@ use Rattle.tb_expand.proofs.ShapedMeanings.{IsGood as IsGoodShape, good_expressi
 use Rattle.tb_expand.specs.Closed.{is_bound, IsClosed, IsClosedIn, AreClosed}
 use Rattle.tb_expand.proofs.FirstOccurrences.{same_name_true, same_var_itself, or_left, or_right}
 use Rattle.tb_expand.proofs.NamedVariables.{every_left, every_right, every_mapped}
-use Rattle.tb_expand.proofs.SplitCounts.{chosen_even}
-use Rattle.tb_expand.proofs.GoodExpressions.{IsGood, IsGoodName, IsGoodBuild, IsVisible, good_expression}
-use Rattle.tb_expand.proofs.CountedMeanings.{Steps, opened_steps, counted_steps, bound_steps, Grows, grows_same, grows_too, grows_enter, Counts, Scanned, scan_counts, means_counted, all_means_counted, sequence_counted, defined_counted, each_counted, body_counted, form_counted, parameters_listed, as_many}
+use Rattle.tb_expand.proofs.GoodExpressions.{IsGood, IsGoodName, IsGoodBuild, good_expression}
+use Rattle.tb_expand.proofs.CountedMeanings.{opened_steps, bound_steps, Grows, scan_counts, means_counted, all_means_counted, defined_counted, each_counted, form_counted, parameters_listed, as_many}
 
 -- among these is each variable that a name means in a scope
 abbrev Covers : List Var → List Scope → ℕ → Type 0
@@ -235,9 +233,10 @@ mutual
       let inmid = still_in st mid c.scope o.scopes le in
       let onmid = same_covers xs st mid c.scope o.scopes h in
       let r = all_means_counted m in
-      let longer = r.grows.longer in
-      (all_closed m xs inmid onmid,
-      body_closed b (variables (fresh far) (names ps.binders) ++ xs) (omega arith) (new_covers far c.scope ps.binders xs (covers_grown xs mid far c.scope r.grows inmid onmid)))
+      let longer = r.grows.longer in (
+        all_closed m xs inmid onmid,
+        body_closed b (variables (fresh far) (names ps.binders) ++ xs) (omega arith) (new_covers far c.scope ps.binders xs (covers_grown xs mid far c.scope r.grows inmid onmid)),
+      )
   means_closed (a_letrec {st = st} {mid = mid} {far = far} {c = c} {p = p} {s = s} {ps = ps} {es = es} {e = e} k a m b l) xs le h =
       let ys = variables (fresh mid) (names ps.binders) in
       let all = split_bound ys es (cons e nil) xs in

@@ -6,17 +6,17 @@ use Rattle.tb_prim.specs.declared.place.Place.{Place}
 use Rattle.tb_sexp.specs.Tree as datum
 use Rattle.tb_expand.specs.declared.context.Context.{Context}
 use Rattle.tb_expand.specs.Names.{Name, Binder, names, is_among}
-use Rattle.tb_expand.specs.Trees.{Var, variables, Node, At, Core, Constant, Unspecified, Undefined, Local, Global, Lambda, If, SetLocal, SetGlobal, DefGlobal, Let, Letrec, Seq, Call, PrimUse, Apply, Nodes, nil, cons, joined, how_many, is_lambda}
+use Rattle.tb_expand.specs.Trees.{Var, variables, Node, Core, Local, Global, Nodes, nil, cons, joined, how_many, is_lambda}
 use Rattle.tb_expand.specs.Splits.{Split, split, node_of, first_deep, inserted, lambdas_among}
 use Rattle.tb_expand.specs.Refusals.{Refusal, Budget, TooDeep}
 use Rattle.tb_expand.specs.Scopes.{Scope, State, binding, fresh, enter}
 use Rattle.tb_expand.specs.Limits.{Limited, Within, Past, counted, opened, one_object, byte_words, even, symbol_object, how_many_data, with_objects, with_objects_of, with_pairs, with_each, has_room, with_constant}
-use Rattle.tb_expand.specs.Shapes.{Formals, Pairs, Defined, parameters, option_list}
-use Rattle.tb_expand.specs.Expressions.{Naming, Operands, Build, Choosing, ChoosingOne, AssigningLocal, AssigningGlobal, Using, ApplyingTo, Calling, expression, built, follows}
+use Rattle.tb_expand.specs.Shapes.{Formals, Defined, parameters, option_list}
+use Rattle.tb_expand.specs.Expressions.{Build, Choosing, ChoosingOne, AssigningLocal, AssigningGlobal, Using, ApplyingTo, Calling, built, follows}
 use Rattle.tb_expand.specs.Bodies.{Found, Scans, scanned, expressions, a_definition, a_begin}
 use Rattle.tb_expand.specs.Means.{option_map, fixed_variables, rest_variable, lambda_nodes, bound_together, finished, not_deep, Means, MeansAll, MeansSequence, MeansLambda, MeansDefined, MeansEach, MeansBody}
 use Rattle.tb_expand.specs.Means.{a_constant, a_name, operands, a_sequence, a_lambda, a_let, a_letrec, no_more, one_more, alone, several, closure, a_value, a_procedure, none_defined, one_defined, plain_body, defining_body}
-use Rattle.tb_expand.specs.Texts.{MeansForm, MeansForms, MeansText, an_expression, a_global, forms_of_begin, no_form, one_form, a_text, no_state, top_context}
+use Rattle.tb_expand.specs.Texts.{MeansForm, MeansForms, MeansText, an_expression, a_global, forms_of_begin, no_form, one_form, a_text}
 use Rattle.tb_expand.specs.Numbers.{nodes, nodes_in, nodes_of_all}
 use Rattle.tb_expand.specs.Closed.{binders_of, binders_in, binders_of_all, one_if, times}
 use Rattle.tb_expand.proofs.ShortConstants.{both_true}

@@ -1,6 +1,5 @@
 -- A numbered program of nodes that are closed has no free variables.
-use Rattle.std.proofs.Common.{◌≡◌, refl, sym, ap, subst, ◌∙◌, ℕ, ◌+◌, ◌⊎◌, inl, inr, ⊎_elim, arith, not, ◌||◌, Bool, true, false, cond, List, [], ◌∷◌, ◌++◌, length, map, Option, Some, None}
-use Rattle.std.specs.List.{list_any}
+use Rattle.std.proofs.Common.{◌≡◌, refl, sym, ap, subst, ◌∙◌, ℕ, ◌+◌, inl, inr, ⊎_elim, arith, not, Bool, true, false, cond, List, [], ◌∷◌, ◌++◌, length, Option, Some, None}
 use Rattle.std.proofs.lemmas.List.{map-append}
 use Rattle.std.proofs.lemmas.Bool.{or_cases}
 use Rattle.tb_prim.specs.declared.place.Place.{Place}
@@ -8,14 +7,14 @@ use Rattle.tb_semantics.specs.Graph.{IsIn}
 use Rattle.tb_core.specs.Tree as core
 use Rattle.tb_core.specs.Tree.{LambdaTree, parameters}
 use Rattle.tb_core.specs.FreeVariables.{is_in, without, of_lambdas, free, free_form, free_all, lambda_free, lambdas_free, inner_free}
-use Rattle.tb_core.proofs.Members.{in-left, in-right, in-either, tested-in, without-sub}
+use Rattle.tb_core.proofs.Members.{in-either, tested-in, without-sub}
 use Rattle.tb_expand.specs.Shapes.{option_list}
 use Rattle.tb_expand.specs.Trees.{Var, same_var, Node, At, Core, Constant, Unspecified, Undefined, Local, Global, Lambda, If, SetLocal, SetGlobal, DefGlobal, Let, Letrec, Seq, Call, PrimUse, Apply, Nodes, nil, cons, is_lambda}
 use Rattle.tb_expand.specs.Numbers.{Tables, Before, variable_number, variable_numbers, option_number, closures_in, lambda_numbers, behind_node, behind_nodes, behind_values, one_node, one_closure, numbered, numbered_in, numbered_all, numbered_lambda, lambdas_of, lambdas_in, lambdas_of_all, lambdas_of_values, tables_of, none_before, program_of}
 use Rattle.tb_expand.specs.WellShaped.{AreLambdas, HasShape, HasShapeIn, HaveShape}
 use Rattle.tb_expand.specs.Closed.{is_bound, IsClosed, IsClosedIn, AreClosed}
 use Rattle.tb_expand.proofs.FirstOccurrences.{same_var_true}
-use Rattle.tb_expand.proofs.LambdaLookups.{Agrees, agrees_left, agrees_right, Opens, opened, whole}
+use Rattle.tb_expand.proofs.LambdaLookups.{Agrees, agrees_left, agrees_right, opened, whole}
 use Rattle.tb_expand.proofs.StandingNumbers.{lambdas_counted, counted_in, all_counted, values_counted}
 
 -- numbers that are all among others
@@ -98,7 +97,7 @@ module _ (t : Tables) where
         let i = node_free (one_closure b) e l.behind ((ys ++ option_list r) ++ xs) h o l.agrees in
         let j = among_bound (ys ++ option_list r) xs (free l.behind (numbered t (one_closure b) e)) i in
         let q : without (numbers (ys ++ option_list r)) (free l.behind (numbered t (one_closure b) e)) ≡ inner b.closures =
-          ap (λ v. without v (free l.behind (numbered t (one_closure b) e))) (sym (parameters_numbered ys r)) ∙ sym l.first_is in
+        ap (λ v. without v (free l.behind (numbered t (one_closure b) e))) (sym (parameters_numbered ys r)) ∙ sym l.first_is in
         subst (Among (numbers xs)) q j
     form_free b p (If c d e) inner xs h o k =
         let b2 = behind_node b c in

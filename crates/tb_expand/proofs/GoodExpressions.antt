@@ -8,7 +8,7 @@ use Rattle.tb_expand.specs.declared.context.Context.{Context}
 use Rattle.tb_expand.specs.declared.form.Form.{Form}
 use Rattle.tb_expand.specs.declared.form.Form.TheVariants.{Applying}
 use Rattle.tb_expand.specs.Names.{Name, Binder, bound_twice}
-use Rattle.tb_expand.specs.Trees.{Var, Core, Constant, Unspecified, Undefined, Local, Global, Lambda, If, SetLocal, SetGlobal, DefGlobal, Let, Letrec, Seq, Call, PrimUse, Apply}
+use Rattle.tb_expand.specs.Trees.{Var, Core, Local, Global}
 use Rattle.tb_expand.specs.Words.{Meaning, Variable, Special, Integrated, Plain, is_of_many, word_of, primitive_meaning, form_meaning}
 use Rattle.tb_expand.specs.Refusals as refusal
 use Rattle.tb_expand.specs.Refusals.{Refusal}

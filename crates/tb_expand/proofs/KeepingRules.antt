@@ -1,17 +1,16 @@
 -- The numbered program of a text keeps the rules of a program.
-use Rattle.std.proofs.Common.{◌≡◌, refl, sym, ap, subst, ◌∙◌, ℕ, ◌+◌, ◌<◌, ◌≤◌, ◌^◌, ⊎_elim, arith, Bool, true, false, List, [], ◌∷◌, length}
+use Rattle.std.proofs.Common.{◌≡◌, sym, ap, subst, ℕ, ◌<◌, ◌≤◌, ⊎_elim, arith, Bool, false, List, [], ◌∷◌, length}
 use Rattle.std.proofs.lemmas.Bool.{cases_Bool}
 use Rattle.tb_core.specs.Tree as core
 use Rattle.tb_core.specs.Tree.{Form, Tree, Trees, LambdaTree, ProgramTree, none, more}
 use Rattle.tb_core.specs.FreeVariables.{is_assigned}
 use Rattle.tb_core.specs.Rules.{Every, Each, EachForm, EachAll, IsInRange, IsShaped, BindsForGood, MarksAreOperands, is_mark, NoMark, NodeKeeps, LambdaKeeps, StaticsKeep, KeepsRules}
 use Rattle.tb_sexp.specs.Tree as datum
-use Rattle.tb_expand.specs.Trees.{Var, same_var, Nodes, assigns_any}
+use Rattle.tb_expand.specs.Trees.{Var, same_var, Nodes}
 use Rattle.tb_expand.specs.Numbers.{variable_number, tables_of, none_before, nodes_of_all, program_of}
 use Rattle.tb_expand.specs.Texts.{MeansText}
 use Rattle.tb_expand.specs.Constants.{ConstantIn, HaveShort}
 use Rattle.tb_expand.specs.Ranges.{GlobalIn, LambdaIn}
-use Rattle.tb_expand.specs.WellShaped.{HaveShape}
 use Rattle.tb_expand.specs.Closed.{binders_of_all, one_if}
 use Rattle.tb_expand.proofs.FirstOccurrences.{HasNumber, have_numbers, same_var_true}
 use Rattle.tb_expand.proofs.NamedVariables.{count, all_binders_keep}
@@ -20,7 +19,7 @@ use Rattle.tb_expand.proofs.ShapedMeanings.{text_shaped}
 use Rattle.tb_expand.proofs.ShortMeanings.{text_short}
 use Rattle.tb_expand.proofs.ClosedMeanings.{text_closed}
 use Rattle.tb_expand.proofs.BoundMeanings.{text_once}
-use Rattle.tb_expand.proofs.SteadyMeanings.{text_steady, own_assigns}
+use Rattle.tb_expand.proofs.SteadyMeanings.{text_steady}
 use Rattle.tb_expand.proofs.CountedMeanings.{few_nodes, few_variables}
 use Rattle.tb_expand.proofs.ShapedNumbers.{forms_keep_shape, lambdas_keep_shape}
 use Rattle.tb_expand.proofs.NodeCounts.{program_counted}
@@ -32,7 +31,7 @@ use Rattle.tb_expand.proofs.SitesApart.{sites_apart}
 use Rattle.tb_expand.proofs.FreeNumbers.{in_scope}
 use Rattle.tb_expand.proofs.BoundNumbers.{bound_once, small_variables}
 use Rattle.tb_expand.proofs.AssignedNumbers.{assigned_same}
-use Rattle.tb_expand.proofs.Steady.{AreSteady, NoneMarked}
+use Rattle.tb_expand.proofs.Steady.{AreSteady}
 use Rattle.tb_expand.proofs.SteadyPrograms.{keeps_all}
 use Rattle.tb_expand.proofs.SteadyNumbers.{all_rule, all_lambdas, all_plain}
 
@@ -201,5 +200,5 @@ text_keeps library ds es m =
       forms = forms_keep p n few (forms_below library es) (forms_within library es short) (forms_in_range library es) (forms_name library es shape) (forms_keep_shape library es shape) (forms_marked library ds es m);
       values = no_marks library ds es m;
       lambdas = lambdas_keep p 0 p.lambdas
-      (bodies_keep p n few (all_lambdas_below library es) (all_lambdas_within library es short) (all_lambdas_in_range library es) (bodies_name library es shape) (lambdas_keep_shape library es shape) (bodies_marked p 0 p.lambdas marked)) marked;
+          (bodies_keep p n few (all_lambdas_below library es) (all_lambdas_within library es short) (all_lambdas_in_range library es) (bodies_name library es shape) (lambdas_keep_shape library es shape) (bodies_marked p 0 p.lambdas marked)) marked;
     }

@@ -1,5 +1,5 @@
 -- The numbers of lambda expressions that nodes name are in range.
-use Rattle.std.proofs.Common.{ℕ, ◌+◌, ◌<◌, ◌≤◌, arith, Bool, List, [], ◌∷◌, ◌++◌, length}
+use Rattle.std.proofs.Common.{ℕ, ◌<◌, List, [], ◌∷◌, ◌++◌}
 use Rattle.tb_core.specs.Tree as core
 use Rattle.tb_core.specs.Tree.{Form, Tree, Trees, LambdaTree, none, more}
 use Rattle.tb_core.specs.Rules.{Every, Each, EachForm, EachAll, inner, inner_form, inner_all, inner_of_lambdas}

@@ -49,3 +49,5 @@ pub mod AssignedNumbers
 pub mod SteadyNumbers
 pub mod LambdaRanges
 pub mod KeepingRules
+pub mod GlobalNames
+pub mod LongNames

@@ -1,5 +1,5 @@
 -- The variables that closed nodes name are bound in them or around them.
-use Rattle.std.proofs.Common.{◌≡◌, refl, sym, ap, subst, ◌∙◌, ℕ, ◌+◌, ◌≤◌, ◌<◌, ◌⊎◌, ⊎_elim, arith, ◌||◌, not, Bool, true, false, cond, nat_le, List, [], ◌∷◌, ◌++◌, length, map}
+use Rattle.std.proofs.Common.{◌≡◌, refl, sym, ap, subst, ◌∙◌, ℕ, ◌+◌, ◌≤◌, ⊎_elim, arith, Bool, true, false, cond, nat_le, List, [], ◌∷◌, ◌++◌, length}
 use Rattle.std.specs.List.{list_any}
 use Rattle.std.proofs.lemmas.Bool.{leb-true, leb-false, cases_Bool, or_cases}
 use Rattle.tb_core.specs.Rules.{Every}
@@ -212,9 +212,9 @@ no_longer (x ∷ xs) zs h k =
     let there = k x (omega arith) in
     let fewer = kept_length x zs in
     let rest = no_longer xs (kept x zs) (λ y. let a = h y in omega arith)
-      (λ y n. let a = k y (omega arith) in
-      let differ : same_var y x ≡ true → ⊥ = λ e. let q : count y xs ≡ count x xs = ap (λ v. count v xs) (same_var_true y x e) in absurd (omega arith) in
-      let c = kept_count x y zs differ in omega arith) in
+    (λ y n. let a = k y (omega arith) in
+    let differ : same_var y x ≡ true → ⊥ = λ e. let q : count y xs ≡ count x xs = ap (λ v. count v xs) (same_var_true y x e) in absurd (omega arith) in
+    let c = kept_count x y zs differ in omega arith) in
     omega arith
 
 noted_once_by : (xs : List Var) (x y : Var) (b : Bool) → list_any (same_var x) xs ≡ b → count y xs ≤ 1 → count y (cond b xs (xs ++ x ∷ [])) ≤ 1

@@ -1,9 +1,8 @@
 -- The nodes of a numbered program that have an order have different numbers.
-use Rattle.std.proofs.Common.{◌≡◌, refl, sym, ap, subst, ◌∙◌, ℕ, suc, ◌+◌, ◌≤◌, arith, Bool, true, false, cond, List, [], ◌∷◌, ◌++◌, length, map}
+use Rattle.std.proofs.Common.{◌≡◌, refl, sym, ap, ◌∙◌, ℕ, ◌+◌, ◌≤◌, arith, Bool, true, false, cond, List, [], ◌∷◌, ◌++◌, length, map}
 use Rattle.std.proofs.lemmas.List.{map-append}
 use Rattle.tb_prim.specs.declared.place.Place.{Place}
 use Rattle.tb_semantics.specs.Graph.{IsApart}
-use Rattle.tb_core.specs.Tree as core
 use Rattle.tb_core.specs.Tree.{LambdaTree, Form}
 use Rattle.tb_core.specs.FreeVariables.{is_assigned}
 use Rattle.tb_core.specs.OperandOrder.{Line, has_order, own_line, lines_of_lambdas, lines, lines_form, lines_all, lambdas_lines, order_of}
@@ -11,8 +10,8 @@ use Rattle.tb_expand.specs.Trees.{Node, At, Core, Constant, Unspecified, Undefin
 use Rattle.tb_expand.specs.Numbers.{Tables, Before, closures_in, nodes, nodes_in, nodes_of_all, nodes_of_values, lambda_numbers, behind_node, behind_nodes, behind_values, one_node, one_closure, numbered, numbered_in, numbered_all, numbered_lambda, lambdas_of, lambdas_in, lambdas_of_all, lambdas_of_values, tables_of, none_before, program_of}
 use Rattle.tb_expand.specs.WellShaped.{AreLambdas, HasShape, HasShapeIn, HaveShape}
 use Rattle.tb_expand.specs.Closed.{one_if, times}
-use Rattle.tb_expand.proofs.Times.{times_joined, is_number, times_apart, past, past_here, past_more, past_none, past_least}
-use Rattle.tb_expand.proofs.LambdaLookups.{Agrees, agrees_left, agrees_right, Opens, opened, whole}
+use Rattle.tb_expand.proofs.Times.{times_joined, is_number, times_apart, past, past_here, past_more, past_least}
+use Rattle.tb_expand.proofs.LambdaLookups.{Agrees, agrees_left, agrees_right, opened, whole}
 use Rattle.tb_expand.proofs.StandingNumbers.{lambdas_counted, counted_in, all_counted, values_counted}
 
 abbrev site_of : Line → ℕ

@@ -1,9 +1,9 @@
 -- How many nodes a split has, and which variables it binds.
-use Rattle.std.proofs.Common.{◌≡◌, refl, sym, ap, ◌∙◌, ℕ, zero, suc, ◌+◌, ◌≤◌, ⊎_elim, arith, not, nat_le, Bool, true, false, cond, List, [], ◌∷◌, ◌++◌, length}
-use Rattle.std.proofs.lemmas.Bool.{cases_lt, le-leb}
+use Rattle.std.proofs.Common.{◌≡◌, refl, ap, ℕ, ◌+◌, ◌≤◌, arith, not, nat_le, Bool, true, false, cond, List, [], ◌∷◌, ◌++◌, length}
+use Rattle.std.proofs.lemmas.Bool.{le-leb}
 use Rattle.tb_prim.specs.declared.place.Place.{Place}
-use Rattle.tb_expand.specs.Trees.{Var, Node, At, Core, Constant, Unspecified, Undefined, Local, Global, Lambda, If, SetLocal, SetGlobal, DefGlobal, Let, Letrec, Seq, Call, PrimUse, Apply, Nodes, nil, cons, how_many, joined, is_lambda, assigns_any}
-use Rattle.tb_expand.specs.Splits.{Bindings, binding_if, is_steady, chosen, Split, split, assigned_before, in_order, letrec_round, let_round, undefined, node_of, one_unless, lambdas_among, inserted}
+use Rattle.tb_expand.specs.Trees.{Var, Node, At, Nodes, nil, cons, how_many, joined, is_lambda, assigns_any}
+use Rattle.tb_expand.specs.Splits.{Bindings, binding_if, is_steady, chosen, split, assigned_before, in_order, letrec_round, let_round, undefined, node_of, one_unless, lambdas_among, inserted}
 use Rattle.tb_expand.specs.Numbers.{nodes, nodes_in, nodes_of_all, nodes_of_values}
 use Rattle.tb_expand.specs.Closed.{binders_of, binders_of_all, one_if, times}
 use Rattle.tb_expand.proofs.ShortConstants.{both_true}

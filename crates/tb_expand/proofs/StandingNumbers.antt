@@ -1,9 +1,8 @@
 -- The lambda expressions of a numbered program: each stands once, and those inside another have greater numbers.
-use Rattle.std.proofs.Common.{◌≡◌, refl, sym, ap, subst, ◌∙◌, ℕ, suc, ◌+◌, ◌<◌, ◌≤◌, ◌⊎◌, ⊎_elim, arith, Bool, true, List, [], ◌∷◌, ◌++◌, length, length-append}
+use Rattle.std.proofs.Common.{◌≡◌, refl, sym, ap, subst, ◌∙◌, ℕ, suc, ◌+◌, ◌<◌, ◌≤◌, ⊎_elim, arith, Bool, true, List, [], ◌∷◌, ◌++◌, length, length-append}
 use Rattle.std.proofs.lemmas.Bool.{cases_lt}
 use Rattle.tb_prim.specs.declared.place.Place.{Place}
 use Rattle.tb_semantics.specs.Graph.{IsApart}
-use Rattle.tb_core.specs.Tree as core
 use Rattle.tb_core.specs.Tree.{LambdaTree}
 use Rattle.tb_core.specs.FreeVariables.{is_in}
 use Rattle.tb_core.specs.Rules.{Every, Each, EachAll, inner, inner_form, inner_all, inner_of_lambdas, standing, InnerAreGreater}
@@ -14,8 +13,8 @@ use Rattle.tb_expand.specs.Ranges.{LambdaIn}
 use Rattle.tb_expand.proofs.LambdaRanges.{trees_names, lambdas_name}
 use Rattle.tb_expand.proofs.NamedVariables.{every_left, every_right}
 use Rattle.tb_expand.proofs.ShapedNumbers.{every_joined}
-use Rattle.tb_expand.specs.Closed.{one_if, times}
-use Rattle.tb_expand.proofs.Times.{times_joined, is_number, times_apart, times_in, past, past_here, past_none, past_at, past_below, past_least, same_once}
+use Rattle.tb_expand.specs.Closed.{times}
+use Rattle.tb_expand.proofs.Times.{times_joined, is_number, times_apart, times_in, past, past_here, past_none, past_at, past_below, same_once}
 
 -- the lambda expression of a value
 pub value_inner : (t : Tables) (b : Before) (p : Place) (c : Core) → is_lambda (At p c) ≡ true → inner_form (numbered_in t b c) ≡ b.closures ∷ []
@@ -281,9 +280,10 @@ mutual
   form_greater t b p Undefined = tt
   form_greater t b p (Local v) = tt
   form_greater t b p (Global g) = tt
-  form_greater t b p (Lambda xs r e) =
-      (every_weaker b.closures (b.closures + 1) _ (omega arith) (inner_above t (one_closure b) e (b.closures + 1) (omega arith)),
-      subst (λ k. InnerAreGreater k (lambdas_of t (one_closure b) e)) (omega arith) (node_greater t (one_closure b) e))
+  form_greater t b p (Lambda xs r e) = (
+    every_weaker b.closures (b.closures + 1) _ (omega arith) (inner_above t (one_closure b) e (b.closures + 1) (omega arith)),
+    subst (λ k. InnerAreGreater k (lambdas_of t (one_closure b) e)) (omega arith) (node_greater t (one_closure b) e),
+  )
   form_greater t b p (If a c d) =
       let b2 = behind_node b a in
       let b3 = behind_node b2 c in

@@ -1,16 +1,16 @@
 -- In what data mean the mark stands for variables that are assigned, and the variables of a `letrec` are not assigned
 -- in it.
-use Rattle.std.proofs.Common.{◌≡◌, ◌≢◌, refl, sym, ap, subst, ◌∙◌, ℕ, ◌+◌, ◌≤◌, ◌&&◌, ◌||◌, not, arith, Bool, true, false, cond, List, [], ◌∷◌, ◌++◌, length, Option, Some, None}
+use Rattle.std.proofs.Common.{◌≡◌, refl, sym, ap, subst, ◌∙◌, ℕ, ◌+◌, ◌≤◌, ◌||◌, not, arith, Bool, true, false, List, [], ◌∷◌, ◌++◌, length, Option, Some, None}
 use Rattle.tb_prim.specs.declared.place.Place.{Place}
 use Rattle.tb_core.specs.Rules.{Every}
 use Rattle.tb_sexp.specs.Tree as datum
 use Rattle.tb_expand.specs.declared.context.Context.{Context}
-use Rattle.tb_expand.specs.Names.{Binder, names, bound_twice}
-use Rattle.tb_expand.specs.Trees.{Var, same_var, variables, Node, At, Core, Constant, Unspecified, Undefined, Local, Global, Lambda, If, SetLocal, SetGlobal, DefGlobal, Let, Letrec, Seq, Call, PrimUse, Apply, Nodes, nil, cons, joined, how_many, is_lambda, assigns, assigns_in, assigns_any}
+use Rattle.tb_expand.specs.Names.{names, bound_twice}
+use Rattle.tb_expand.specs.Trees.{Var, same_var, variables, Node, At, Core, Local, Global, Let, Letrec, Nodes, nil, cons, joined, how_many, is_lambda, assigns, assigns_in, assigns_any}
 use Rattle.tb_expand.specs.Splits.{Bindings, binding_if, is_steady, chosen, split, assigned_before, in_order, letrec_round, let_round, undefined, node_of}
 use Rattle.tb_expand.specs.Scopes.{State, fresh}
-use Rattle.tb_expand.specs.Shapes.{Formals, Defined, parameters}
-use Rattle.tb_expand.specs.Expressions.{Build, Choosing, ChoosingOne, AssigningLocal, AssigningGlobal, Using, ApplyingTo, Calling, built, expression}
+use Rattle.tb_expand.specs.Shapes.{Formals, Defined}
+use Rattle.tb_expand.specs.Expressions.{Build, Choosing, ChoosingOne, AssigningLocal, AssigningGlobal, Using, ApplyingTo, Calling, built}
 use Rattle.tb_expand.specs.Means.{Means, MeansAll, MeansSequence, MeansLambda, MeansDefined, MeansEach, MeansBody}
 use Rattle.tb_expand.specs.Means.{a_constant, a_name, operands, a_sequence, a_lambda, a_let, a_letrec, no_more, one_more, alone, several, closure, a_value, a_procedure, none_defined, one_defined, plain_body, defining_body}
 use Rattle.tb_expand.specs.Texts.{MeansForm, MeansForms, MeansText, an_expression, a_global, forms_of_begin, no_form, one_form, a_text}
@@ -22,7 +22,7 @@ use Rattle.tb_expand.proofs.NamedVariables.{count, own_held, every_mapped}
 use Rattle.tb_expand.proofs.SplitCounts.{chosen_even, both_bound}
 use Rattle.tb_expand.proofs.GoodExpressions.{IsGood, IsGoodName, good_expression}
 use Rattle.tb_expand.proofs.BoundMeanings.{variables_once, found_once}
-use Rattle.tb_expand.proofs.Steady.{marked, NoneMarked, MarksPass, IsSteady, IsSteadyIn, AreSteady}
+use Rattle.tb_expand.proofs.Steady.{marked, NoneMarked, MarksPass, IsSteady, AreSteady}
 
 -- whether a node assigns a variable that it binds
 abbrev pub own_assigns : Core → Var → Bool
@@ -140,11 +140,11 @@ before_each p [] vs es n = tt
 before_each p (x ∷ xs) nil es n = absurd (omega arith)
 before_each p (x ∷ xs) (cons v vs) es n = (
   let i = or_first (same_var x x || assigns x v) (assigns_any x (assigned_before p xs vs es)) in
-  let j = or_first (same_var x x) (assigns x v) in
-  let k : one_if (same_var x x) ≡ 1 = ap one_if (same_var_itself x) in
-  omega arith,
+      let j = or_first (same_var x x) (assigns x v) in
+      let k : one_if (same_var x x) ≡ 1 = ap one_if (same_var_itself x) in
+      omega arith,
   every_mapped (λ y. 1 ≤ one_if (assigns_any y (assigned_before p xs vs es))) (λ y. 1 ≤ one_if (assigns_any y (assigned_before p (x ∷ xs) (cons v vs) es)))
-  (λ y h. let k = or_second (same_var x y || assigns y v) (assigns_any y (assigned_before p xs vs es)) in omega arith) xs (before_each p xs vs es (omega arith)),
+      (λ y h. let k = or_second (same_var x y || assigns y v) (assigns_any y (assigned_before p xs vs es)) in omega arith) xs (before_each p xs vs es (omega arith)),
 )
 
 -- nodes of parts
@@ -195,8 +195,13 @@ order_steady p (cons e (cons f es)) h n = record { steady = (n, h); plain = refl
 letrec_steady : (p : Place) (xs : List Var) (vs : Nodes) (e : Node) → Every (λ x. one_if (assigns_any x vs) + one_if (assigns x e) ≤ 0) xs → AreSteady own_assigns vs → Steadily e → Steadily (letrec_round p xs vs e)
 letrec_steady p [] vs e n h k = k
 letrec_steady p (x ∷ xs) vs e n h k = record {
-  steady = (every_mapped (λ x. one_if (assigns_any x vs) + one_if (assigns x e) ≤ 0) (λ x. own_assigns (Letrec (x ∷ xs) vs e) x ≡ false)
-  (λ y g. let m = or_most (assigns_any y vs) (assigns y e) in none_true (assigns_any y vs || assigns y e) (omega arith)) (x ∷ xs) n, k.plain, h, k.steady);
+  steady = (
+    every_mapped (λ x. one_if (assigns_any x vs) + one_if (assigns x e) ≤ 0) (λ x. own_assigns (Letrec (x ∷ xs) vs e) x ≡ false)
+        (λ y g. let m = or_most (assigns_any y vs) (assigns y e) in none_true (assigns_any y vs || assigns y e) (omega arith)) (x ∷ xs) n,
+    k.plain,
+    h,
+    k.steady,
+  );
   plain = refl;
 }
 
@@ -213,9 +218,14 @@ let_steady p [] e n k = k
 let_steady p (x ∷ xs) e n k =
     let es = undefined p (x ∷ xs) in
     record {
-      steady = (undefined_pass (own_assigns (Let (x ∷ xs) es e)) p (x ∷ xs)
-      (every_mapped (λ x. 1 ≤ one_if (assigns x e)) (λ y. own_assigns (Let (x ∷ xs) es e) y ≡ true)
-      (λ y g. let m = or_second (assigns_any y es) (assigns y e) in one_true (assigns_any y es || assigns y e) (omega arith)) (x ∷ xs) n), k.plain, undefined_steady p (x ∷ xs), k.steady);
+      steady = (
+        undefined_pass (own_assigns (Let (x ∷ xs) es e)) p (x ∷ xs)
+            (every_mapped (λ x. 1 ≤ one_if (assigns x e)) (λ y. own_assigns (Let (x ∷ xs) es e) y ≡ true)
+            (λ y g. let m = or_second (assigns_any y es) (assigns y e) in one_true (assigns_any y es || assigns y e) (omega arith)) (x ∷ xs) n),
+        k.plain,
+        undefined_steady p (x ∷ xs),
+        k.steady,
+      );
       plain = refl;
     }
 
@@ -232,22 +242,22 @@ split_steady p xs vs es once h k =
     let ordered = order_steady p body (before_steady p o.variables o.values es (chosen_kept false parts xs vs h.steady) (chosen_plain false parts xs vs h.plain) k.steady) (before_plain p o.variables o.values es k.plain) in
     let there : Every (λ y. 1 ≤ count y [] + count y (t.variables ++ [])) t.variables = own_held [] t.variables [] in
     let free : Every (λ x. one_if (assigns_any x t.values) + one_if (assigns x (in_order p body)) ≤ 0) t.variables =
-      every_both (λ y. 1 ≤ count y [] + count y (t.variables ++ [])) (Unassigned parts) (λ x. one_if (assigns_any x t.values) + one_if (assigns x (in_order p body)) ≤ 0)
-      (λ y one none.
-      let apart = both_bound (same_var y) parts xs vs in
-      let all = once y in
-      let nothing = times_joined (same_var y) t.variables [] in
-      let a = chosen_assigns y true parts xs vs in
-      let b = chosen_assigns y false parts xs vs in
-      let c = before_most y p o.variables o.values es in
-      let d = those_count y o.variables in
-      let e = order_same y p body in
-      let f = assigned_joined y vs es in
-      let g = assigned_behind y vs es in
-      omega arith) t.variables there (together_steady parts xs vs) in
+    every_both (λ y. 1 ≤ count y [] + count y (t.variables ++ [])) (Unassigned parts) (λ x. one_if (assigns_any x t.values) + one_if (assigns x (in_order p body)) ≤ 0)
+    (λ y one none.
+    let apart = both_bound (same_var y) parts xs vs in
+    let all = once y in
+    let nothing = times_joined (same_var y) t.variables [] in
+    let a = chosen_assigns y true parts xs vs in
+    let b = chosen_assigns y false parts xs vs in
+    let c = before_most y p o.variables o.values es in
+    let d = those_count y o.variables in
+    let e = order_same y p body in
+    let f = assigned_joined y vs es in
+    let g = assigned_behind y vs es in
+    omega arith) t.variables there (together_steady parts xs vs) in
     let around = letrec_steady p t.variables t.values (in_order p body) free (chosen_kept true parts xs vs h.steady) ordered in
     let each = every_mapped (λ y. 1 ≤ one_if (assigns_any y body)) (λ y. 1 ≤ one_if (assigns y (letrec_round p t.variables t.values (in_order p body))))
-      (λ y g. let a = order_same y p body in let b = letrec_least y p t.variables t.values (in_order p body) in omega arith) o.variables (before_each p o.variables o.values es (chosen_even false parts xs vs)) in
+    (λ y g. let a = order_same y p body in let b = letrec_least y p t.variables t.values (in_order p body) in omega arith) o.variables (before_each p o.variables o.values es (chosen_even false parts xs vs)) in
     let_steady p o.variables (letrec_round p t.variables t.values (in_order p body)) each around
 
 -- the node of its parts

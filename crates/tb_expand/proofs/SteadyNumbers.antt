@@ -1,5 +1,5 @@
 -- The nodes of a numbered program keep the rules on marks and on the variables of a `letrec`.
-use Rattle.std.proofs.Common.{◌≡◌, refl, sym, ap, subst, ◌∙◌, ℕ, Bool, true, false, cond, List, [], ◌∷◌, ◌++◌, map}
+use Rattle.std.proofs.Common.{◌≡◌, refl, sym, ◌∙◌, ℕ, Bool, true, false, List, [], ◌∷◌}
 use Rattle.std.specs.List.{list_any}
 use Rattle.tb_prim.specs.declared.place.Place.{Place}
 use Rattle.tb_prim.specs.declared.constant.Const.{Const}
@@ -9,7 +9,7 @@ use Rattle.tb_core.specs.Tree as core
 use Rattle.tb_core.specs.Tree.{Form, LambdaTree}
 use Rattle.tb_core.specs.Rules.{Every, Each, EachForm, EachAll, BindsForGood, is_mark, NoMark, MarksAssigned, MarksAreOperands}
 use Rattle.tb_expand.specs.Trees.{Var, Node, At, Core, Constant, Unspecified, Undefined, Local, Global, Lambda, If, SetLocal, SetGlobal, DefGlobal, Let, Letrec, Seq, Call, PrimUse, Apply, Nodes, nil, cons}
-use Rattle.tb_expand.specs.Numbers.{Tables, Before, Placed, unplaced, finished_object, is_symbol, placed_symbol, placed, placed_in, placed_pairs, variable_number, variable_numbers, behind_node, behind_nodes, behind_values, one_node, one_closure, numbered, numbered_in, numbered_all, lambdas_of, lambdas_in, lambdas_of_all, lambdas_of_values, tables_of, none_before, program_of}
+use Rattle.tb_expand.specs.Numbers.{Tables, Before, Placed, unplaced, is_symbol, placed_symbol, placed, placed_in, placed_pairs, variable_number, variable_numbers, behind_node, behind_nodes, behind_values, one_node, one_closure, numbered, numbered_in, numbered_all, lambdas_of, lambdas_in, lambdas_of_all, lambdas_of_values}
 use Rattle.tb_expand.proofs.ShapedNumbers.{every_joined}
 use Rattle.tb_expand.proofs.Steady.{marked, NoneMarked, MarksPass, IsSteady, IsSteadyIn, AreSteady}
 

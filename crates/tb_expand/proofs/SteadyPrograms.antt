@@ -1,14 +1,13 @@
 -- Nodes that are steady by what they assign themselves are so by what the whole text assigns.
-use Rattle.std.proofs.Common.{◌≡◌, refl, sym, ap, subst, ◌∙◌, ℕ, ◌+◌, ◌≤◌, ◌||◌, arith, Bool, true, false, cond, List, [], ◌∷◌, ◌++◌, length}
-use Rattle.tb_prim.specs.declared.place.Place.{Place}
+use Rattle.std.proofs.Common.{◌≡◌, refl, ap, ◌∙◌, ℕ, ◌+◌, ◌≤◌, ◌||◌, arith, Bool, true, false, List, [], ◌∷◌, ◌++◌}
 use Rattle.tb_core.specs.Rules.{Every}
 use Rattle.tb_expand.specs.Shapes.{option_list}
 use Rattle.tb_expand.specs.Trees.{Var, same_var, Node, At, Core, Constant, Unspecified, Undefined, Local, Global, Lambda, If, SetLocal, SetGlobal, DefGlobal, Let, Letrec, Seq, Call, PrimUse, Apply, Nodes, nil, cons, assigns, assigns_in, assigns_any}
-use Rattle.tb_expand.specs.Closed.{binders_of, binders_in, binders_of_all, is_bound, IsClosed, IsClosedIn, AreClosed, one_if, times}
+use Rattle.tb_expand.specs.Closed.{binders_of, binders_in, binders_of_all, is_bound, IsClosed, IsClosedIn, AreClosed, one_if}
 use Rattle.tb_expand.proofs.Times.{times_joined}
 use Rattle.tb_expand.proofs.FirstOccurrences.{same_var_true}
 use Rattle.tb_expand.proofs.NamedVariables.{count, own_held, bound_held, every_mapped, assigned_held, all_assigned_held}
-use Rattle.tb_expand.proofs.Steady.{marked, NoneMarked, MarksPass, IsSteady, IsSteadyIn, AreSteady}
+use Rattle.tb_expand.proofs.Steady.{MarksPass, IsSteady, IsSteadyIn, AreSteady}
 use Rattle.tb_expand.proofs.SteadyMeanings.{own_assigns, or_most, or_first, or_second}
 
 pub bool_same : (a b : Bool) → one_if a ≡ one_if b → a ≡ b
@@ -117,11 +116,12 @@ module _ (whole : Var → Bool) where
         let hc : Held xs (λ y. assigns y c) bc = λ y. assigned_held xs c y o.1 in
         let hd : Held xs (λ y. assigns y d) bd = λ y. assigned_held xs d y o.2 in
         let rest : Agrees q (bc ++ bd) = right_agrees xs bb (bc ++ bd) p q a h (λ y. assigned_held xs b y o.0) in
-        let apart = right_apart xs bb (bc ++ bd) a in
-        (k.0,
-        keeps_node xs b o.0 (left_apart xs bb (bc ++ bd) a) (left_agrees xs bb (bc ++ bd) p q a h (two_held xs bc bd (λ y. assigns y c) (λ y. assigns y d) hc hd)) k.1,
-        keeps_node xs c o.1 (left_apart xs bc bd apart) (left_agrees xs bc bd (λ y. assigns y c) (λ y. assigns y d) apart rest hd) k.2,
-        keeps_node xs d o.2 (right_apart xs bc bd apart) (right_agrees xs bc bd (λ y. assigns y c) (λ y. assigns y d) apart rest hc) k.3)
+        let apart = right_apart xs bb (bc ++ bd) a in (
+          k.0,
+          keeps_node xs b o.0 (left_apart xs bb (bc ++ bd) a) (left_agrees xs bb (bc ++ bd) p q a h (two_held xs bc bd (λ y. assigns y c) (λ y. assigns y d) hc hd)) k.1,
+          keeps_node xs c o.1 (left_apart xs bc bd apart) (left_agrees xs bc bd (λ y. assigns y c) (λ y. assigns y d) apart rest hd) k.2,
+          keeps_node xs d o.2 (right_apart xs bc bd apart) (right_agrees xs bc bd (λ y. assigns y c) (λ y. assigns y d) apart rest hc) k.3,
+        )
     keeps_core xs (SetLocal x e) o a h k =
         (k.0, keeps_node xs e o.1 a (right_agrees xs [] (binders_of e) (λ y. same_var x y) (λ y. assigns y e) a h (name_held xs x o.0)) k.1)
     keeps_core xs (SetGlobal q g e) o a h k = (k.0, keeps_node xs e o a h k.1)
@@ -134,10 +134,12 @@ module _ (whole : Var → Bool) where
         let inside = under_apart xs ys (bs ++ be) a in
         let rest = behind_agrees ys (bs ++ be) (λ y. p y || q y) h in
         let hp : Held (ys ++ xs) p bs = around_held ys xs bs p (λ y. all_assigned_held xs es y o.0) in
-        let hq : Held (ys ++ xs) q be = λ y. assigned_held (ys ++ xs) e y o.1 in
-        (marks_moved (own_assigns (Let ys es e)) whole ys es (own_agree ys (bs ++ be) (λ y. p y || q y) h) k.0, k.1,
-        keeps_all xs es o.0 (left_apart xs bs be (right_apart xs ys (bs ++ be) a)) (left_agrees (ys ++ xs) bs be p q inside rest hq) k.2,
-        keeps_node (ys ++ xs) e o.1 (right_apart (ys ++ xs) bs be inside) (right_agrees (ys ++ xs) bs be p q inside rest hp) k.3)
+        let hq : Held (ys ++ xs) q be = λ y. assigned_held (ys ++ xs) e y o.1 in (
+          marks_moved (own_assigns (Let ys es e)) whole ys es (own_agree ys (bs ++ be) (λ y. p y || q y) h) k.0,
+          k.1,
+          keeps_all xs es o.0 (left_apart xs bs be (right_apart xs ys (bs ++ be) a)) (left_agrees (ys ++ xs) bs be p q inside rest hq) k.2,
+          keeps_node (ys ++ xs) e o.1 (right_apart (ys ++ xs) bs be inside) (right_agrees (ys ++ xs) bs be p q inside rest hp) k.3,
+        )
     keeps_core xs (Letrec ys es e) o a h k =
         let bs = binders_of_all es in
         let be = binders_of e in
@@ -146,28 +148,32 @@ module _ (whole : Var → Bool) where
         let inside = under_apart xs ys (bs ++ be) a in
         let rest = behind_agrees ys (bs ++ be) (λ y. p y || q y) h in
         let hp : Held (ys ++ xs) p bs = λ y. all_assigned_held (ys ++ xs) es y o.0 in
-        let hq : Held (ys ++ xs) q be = λ y. assigned_held (ys ++ xs) e y o.1 in
-        (every_two (λ x. whole x ≡ (p x || q x)) (λ x. own_assigns (Letrec ys es e) x ≡ false) (λ x. whole x ≡ false) (λ x u v. u ∙ v) ys (own_agree ys (bs ++ be) (λ y. p y || q y) h) k.0, k.1,
-        keeps_all (ys ++ xs) es o.0 (left_apart (ys ++ xs) bs be inside) (left_agrees (ys ++ xs) bs be p q inside rest hq) k.2,
-        keeps_node (ys ++ xs) e o.1 (right_apart (ys ++ xs) bs be inside) (right_agrees (ys ++ xs) bs be p q inside rest hp) k.3)
+        let hq : Held (ys ++ xs) q be = λ y. assigned_held (ys ++ xs) e y o.1 in (
+          every_two (λ x. whole x ≡ (p x || q x)) (λ x. own_assigns (Letrec ys es e) x ≡ false) (λ x. whole x ≡ false) (λ x u v. u ∙ v) ys (own_agree ys (bs ++ be) (λ y. p y || q y) h) k.0,
+          k.1,
+          keeps_all (ys ++ xs) es o.0 (left_apart (ys ++ xs) bs be inside) (left_agrees (ys ++ xs) bs be p q inside rest hq) k.2,
+          keeps_node (ys ++ xs) e o.1 (right_apart (ys ++ xs) bs be inside) (right_agrees (ys ++ xs) bs be p q inside rest hp) k.3,
+        )
     keeps_core xs (Seq es) o a h k = (k.0, keeps_all xs es o a h k.1)
     keeps_core xs (Call f es) o a h k =
         let bf = binders_of f in
         let bs = binders_of_all es in
         let p = λ (y : Var). assigns y f in
-        let q = λ (y : Var). assigns_any y es in
-        (k.0,
-        keeps_node xs f o.0 (left_apart xs bf bs a) (left_agrees xs bf bs p q a h (λ y. all_assigned_held xs es y o.1)) k.1,
-        keeps_all xs es o.1 (right_apart xs bf bs a) (right_agrees xs bf bs p q a h (λ y. assigned_held xs f y o.0)) k.2)
+        let q = λ (y : Var). assigns_any y es in (
+          k.0,
+          keeps_node xs f o.0 (left_apart xs bf bs a) (left_agrees xs bf bs p q a h (λ y. all_assigned_held xs es y o.1)) k.1,
+          keeps_all xs es o.1 (right_apart xs bf bs a) (right_agrees xs bf bs p q a h (λ y. assigned_held xs f y o.0)) k.2,
+        )
     keeps_core xs (PrimUse q es) o a h k = (k.0, keeps_all xs es o a h k.1)
     keeps_core xs (Apply f l) o a h k =
         let bf = binders_of f in
         let bl = binders_of l in
         let p = λ (y : Var). assigns y f in
-        let q = λ (y : Var). assigns y l in
-        (k.0,
-        keeps_node xs f o.0 (left_apart xs bf bl a) (left_agrees xs bf bl p q a h (λ y. assigned_held xs l y o.1)) k.1,
-        keeps_node xs l o.1 (right_apart xs bf bl a) (right_agrees xs bf bl p q a h (λ y. assigned_held xs f y o.0)) k.2)
+        let q = λ (y : Var). assigns y l in (
+          k.0,
+          keeps_node xs f o.0 (left_apart xs bf bl a) (left_agrees xs bf bl p q a h (λ y. assigned_held xs l y o.1)) k.1,
+          keeps_node xs l o.1 (right_apart xs bf bl a) (right_agrees xs bf bl p q a h (λ y. assigned_held xs f y o.0)) k.2,
+        )
 
     pub keeps_all : (xs : List Var) (es : Nodes) → AreClosed xs es → Apart xs (binders_of_all es) → Agrees (λ y. assigns_any y es) (binders_of_all es) → AreSteady own_assigns es → AreSteady final es
     keeps_all xs nil o a h k = tt
@@ -175,6 +181,7 @@ module _ (whole : Var → Bool) where
         let be = binders_of e in
         let bs = binders_of_all es in
         let p = λ (y : Var). assigns y e in
-        let q = λ (y : Var). assigns_any y es in
-        (keeps_node xs e o.0 (left_apart xs be bs a) (left_agrees xs be bs p q a h (λ y. all_assigned_held xs es y o.1)) k.0,
-        keeps_all xs es o.1 (right_apart xs be bs a) (right_agrees xs be bs p q a h (λ y. assigned_held xs e y o.0)) k.1)
+        let q = λ (y : Var). assigns_any y es in (
+          keeps_node xs e o.0 (left_apart xs be bs a) (left_agrees xs be bs p q a h (λ y. all_assigned_held xs es y o.1)) k.0,
+          keeps_all xs es o.1 (right_apart xs be bs a) (right_agrees xs be bs p q a h (λ y. assigned_held xs e y o.0)) k.1,
+        )

@@ -16,6 +16,7 @@ pub mod Constants
 pub mod WellShaped
 pub mod Ranges
 pub mod Closed
+pub mod Programs
 pub mod View
 pub mod Examples
 pub mod calls

@@ -9,7 +9,7 @@ ghost use Rattle.tb_core.specs.Rules.{Each, EachAll, Every, InnerAreGreater, IsS
 ghost use Rattle.tb_core.specs.Tree.{Form, LambdaTree};
 ghost use Rattle.tb_expand.specs.Constants.{ConstantIn, HaveShort};
 ghost use Rattle.tb_expand.specs.Numbers.{nodes_of_all, program_of, statics_of_all};
-ghost use Rattle.tb_expand.specs.Ranges.{GlobalIn, LambdaIn};
+ghost use Rattle.tb_expand.specs.Ranges.{GlobalIn, IsLong, IsNamed, LambdaIn};
 ghost use Rattle.tb_expand.specs.Closed.{AreClosed, binders_of_all, times};
 ghost use Rattle.tb_expand.specs.WellShaped.{HaveShape};
 ghost use Rattle.tb_expand.specs.Means.{Means, Refuses};
@@ -18,6 +18,8 @@ ghost use Rattle.tb_expand.specs.declared.context.Context.{Context};
 ghost use Rattle.tb_expand.specs.Scopes.{State};
 ghost use Rattle.tb_expand.specs.Texts.{MeansText, RefusesText};
 ghost use Rattle.tb_expand.specs.Trees.{Node, Nodes, Var, same_var};
+ghost use Rattle.tb_prim.specs.declared.constant.GlobalName.{GlobalName};
+ghost use Rattle.tb_sexp.specs.DatumRules.{AreLawful};
 ghost use Rattle.tb_sexp.specs.Tree as datum;
 
 /// A datum has one meaning or one first refusal in a context, and not both.
@@ -124,4 +126,19 @@ pub fn lambdas_are_in_range()
 /// The numbered program of a text keeps the rules of a program.
 pub fn numbered_programs_keep_rules()
     ensures { (library : Bool) (ds : datum.Trees) (es : Nodes) → MeansText library ds es → KeepsRules (program_of library es) }
+{}
+
+/// Each global of a numbered program is one that its nodes name.
+pub fn globals_are_named()
+    ensures { (library : Bool) (es : Nodes) → Every (λ (g : GlobalName). IsNamed library es g) (program_of library es).globals }
+{}
+
+/// The program of a text has at most 1,000,000 globals.
+pub fn texts_name_few_globals()
+    ensures { (library : Bool) (ds : datum.Trees) (es : Nodes) → MeansText library ds es → length (program_of library es).globals ≤ 1000000 }
+{}
+
+/// The names of the globals that a text of lawful data names have 1 to 255 bytes.
+pub fn global_names_are_long()
+    ensures { (library : Bool) (ds : datum.Trees) (es : Nodes) → AreLawful ds → MeansText library ds es → Every (λ (g : GlobalName). IsLong g.name) (program_of library es).globals }
 {}
