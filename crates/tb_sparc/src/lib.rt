@@ -4,10 +4,15 @@
 //! cut to the instructions that the code generator emits.
 #![tactic(auto)]
 
+mod code;
+mod codes;
 mod decoder;
 mod encoder;
+pub mod examples;
 mod instr;
 
+pub use code::{SparcCode, WordRow};
+pub use codes::Codes;
 pub use decoder::decode;
 pub use encoder::encode;
 pub use instr::{AluOp, Operand, SparcInstr};
