@@ -14,7 +14,8 @@ use Rattle.tb_core.proofs.Members.{in-tested, in-without, tested-in, without-sub
 use Rattle.tb_ir.specs.AnfTree.{Operand, Quote, Var, Block, Bind, CloseAll, Tail, Op, Atom, Global, SetGlobal, DefGlobal, PrimUse, NewCell, CellGet, CellSet, Close, Call, Direct, Apply, Branch, ProcTree, AnfTree}
 use Rattle.tb_ir.specs.AnfMachine.{InBlock, form_of, proc_of}
 use Rattle.tb_ir.specs.AnfRules.{AtomKeeps, BlockKeeps, IsInRange, IsShaped, KeepsRules, Numbered, PassesAll, PassesCells, ProcKeeps, all_blocks, atoms, binders, blocks, closed_by, forms_of, is_form, lambdas_of, names_outside, of_each, operation, operations, standing_at}
-use Rattle.tb_codegen.specs.Fits.{Fits, IsByte, passed_by}
+use Rattle.tb_codegen.specs.Fits.{Fits, IsByte}
+use Rattle.tb_ir.specs.Passed.{passed_by}
 use Rattle.tb_codegen.specs.Generate.{code_forms, code_lambda, code_lambdas, labels_in, labels_within, noted_items, operands_map, settled}
 use Rattle.tb_codegen.specs.Homes.{frame_size, origin, own_variables, slot_of}
 use Rattle.tb_codegen.specs.Notes.{AtLifted, AtProc, Noted, Mark}
