@@ -1,0 +1,9 @@
+pub mod Views
+pub mod Slots
+pub mod Members
+pub mod Forms
+pub mod Makes
+pub mod Homing
+pub mod Programs
+pub mod Same
+pub mod Whole
