@@ -129,7 +129,7 @@ LiftedKeeps-prop p m = hlevel (props, IsApart-prop, Every-prop)
 KeepsRules-prop : (limit : ℕ) (p : ProgramTree) → IsProp (KeepsRules limit p)
 KeepsRules-prop limit p =
     let nodes : IsProp (Every (NodeKeeps limit p) (all_nodes p)) = Every-prop _ (NodeKeeps-prop limit p)
-        (all_nodes p) in
+    (all_nodes p) in
     let bodies : IsProp (Every (λ (l : LambdaTree). BodyKeeps p (parameters l) l.body) p.lambdas) =
     Every-prop _ (λ l. BodyKeeps-prop p (parameters l) l.body) p.lambdas in
     let lifted : IsProp (Every (LiftedKeeps p) p.set) = Every-prop _ (LiftedKeeps-prop p) p.set in

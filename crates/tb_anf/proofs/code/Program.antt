@@ -27,7 +27,7 @@ whole globals statics order procs = record { globals = globals; statics = static
 pub made-whole : (p : ProgramTree) (lines order : List OrderLine) (names globals : List GlobalName)
     (objects statics : List Static)
     (copied : List OrderLine) (procs : List AnfProc) → names ≡ p.globals → globals ≡ names → objects ≡ p.statics →
-        statics ≡ objects →
+    statics ≡ objects →
     order ≡ lines → copied ≡ order → map view_proc procs ≡ (normal_form p (map view_line lines)).procs →
     plain_anf globals statics copied procs ≡ normal_form p (map view_line lines)
 made-whole p lines order names globals objects statics copied procs n g o s l c h =

@@ -201,7 +201,7 @@ module _ (p : ProgramTree) (order : List Line) (rules : KeepsRules (2 ^ 31) p) (
       both j =
           let whole = variables-parts p
           ∙ ap (λ z. z ++ params_of p.lambdas) (sym (of_nodes-append K.binders (K.nodes_of p.forms)
-              (K.nodes_of_lambdas p.lambdas))) in
+          (K.nodes_of_lambdas p.lambdas))) in
           let small = every-in (λ z. z < 2 ^ 31) (K.variables p) y rules.small_variables
           (subst (IsIn y) (sym whole) (in-right y (of_nodes K.binders (all_nodes p)) _ i)) in
           let same = binders-same y small p order (proper-nodes p order rules lines) in
@@ -214,8 +214,11 @@ module _ (p : ProgramTree) (order : List Line) (rules : KeepsRules (2 ^ 31) p) (
   -- what a direct call passes
   added_pass : (n : ℕ) (es : Trees) (ys : List ℕ) → AreAdded 0 es ys → N.PassesCells q ys (atoms n es)
   added_pass n none [] h = tt
-  added_pass n (more (Node u s (Local z)) es) (y ∷ ys) h = (λ t. h.0, added_pass
-      (n + size (Node u s (Local z))) es ys h.1)
+  added_pass n (more (Node u s (Local z)) es) (y ∷ ys) h = (
+    λ t. h.0,
+    added_pass
+        (n + size (Node u s (Local z))) es ys h.1,
+  )
   added_pass n es ys h = absurd h
 
   passes : (n : ℕ) (es : Trees) (xs ys : List ℕ) → ((y : ℕ) → IsIn y xs → is_in (N.cells q) y ≡ false) →
@@ -269,8 +272,14 @@ module _ (p : ProgramTree) (order : List Line) (rules : KeepsRules (2 ^ 31) p) (
   own k u s f op (of_global g) d h r =
       plain_own k _ tt (record { atoms_keep = tt; range = d.0.in_range; lambdas = tt; shaped = tt; no_mark = tt })
   own k u s f op (of_lambda l) d h r =
-      plain_own k _ tt (record { atoms_keep = tt; range = tt; lambdas = in_lambdas
-          (l ∷ []) d.0.in_range; shaped = tt; no_mark = tt })
+      plain_own k _ tt (record {
+        atoms_keep = tt;
+        range = tt;
+        lambdas = in_lambdas
+            (l ∷ []) d.0.in_range;
+        shaped = tt;
+        no_mark = tt;
+      })
   own k u s f op (of_if n a b c e g) d h r =
       plain_own k _ tt (record {
         atoms_keep = (atom_keeps n a h.0, tt);
@@ -372,8 +381,11 @@ module _ (p : ProgramTree) (order : List Line) (rules : KeepsRules (2 ^ 31) p) (
   named (y ∷ ys) none h i = tt
   named (y ∷ ys) (more e es) h i =
       let proper = proper-nodes p order rules lines in (
-        (λ t. named-same y (i y (inl refl)) p order proper ∙ h.0 t ∙ sym
-            (celled-same y (i y (inl refl)) p order proper), λ t. tt),
+        (
+          λ t. named-same y (i y (inl refl)) p order proper ∙ h.0 t ∙ sym
+              (celled-same y (i y (inl refl)) p order proper),
+          λ t. tt,
+        ),
         named ys es h.1 (λ z j. i z (inr j)),
       )
 
@@ -394,7 +406,7 @@ module _ (p : ProgramTree) (order : List Line) (rules : KeepsRules (2 ^ 31) p) (
   kept : Every Kept (all_nodes p)
   kept =
       every-zip (NodeKeeps (2 ^ 31) p) (λ d. (y : ℕ) → IsIn y (K.binders (form_of d)) → IsIn y
-          (of_nodes K.binders (all_nodes p)))
+      (of_nodes K.binders (all_nodes p)))
       Kept (all_nodes p)
       (λ d a b. (
         a,

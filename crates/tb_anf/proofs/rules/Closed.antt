@@ -71,7 +71,7 @@ pub added-entry : (set : List Lifted) (l y : ℕ) → IsIn y (added_to set l) �
 added-entry [] l y i = absurd i
 added-entry (m ∷ ms) l y i =
     ⊎_elim inl (λ ne. inr (added-entry ms l y (subst (λ b. IsIn y (cond b m.added (added_to ms l)))
-        (ne_eqb m.lambda l ne) i)))
+    (ne_eqb m.lambda l ne) i)))
     (cases_eq m.lambda l)
 
 -- a lambda expression binds the variable, and its number is less than this one
@@ -92,8 +92,8 @@ module _ (p : ProgramTree) (rules : KeepsRules (2 ^ 31) p) where
   later : (k l y : ℕ) → k < l → BoundBefore p k y → BoundBefore p l y
   later k l y lt =
       ⊎_elim inl
-          (λ b. let a = b.less in inr
-          (record { number = b.number; lambda = b.lambda; less = omega arith; there = b.there; here = b.here }))
+      (λ b. let a = b.less in inr
+      (record { number = b.number; lambda = b.lambda; less = omega arith; there = b.there; here = b.here }))
 
   of_variables : (l y : ℕ) → IsIn y (variables_before p l) → BoundBefore p l y
   of_variables l y i =
@@ -114,7 +114,7 @@ module _ (p : ProgramTree) (rules : KeepsRules (2 ^ 31) p) where
   added-before l y i =
       let r = lifted-entry (LiftedKeeps p) p.set l (added-entry p.set l y i) rules.lifted in
       let t = every-in (λ z. is_in (variables_before p r.0.lambda) z ≡ true) r.0.added y r.3.added_bound
-          (subst (IsIn y) r.2 i) in
+      (subst (IsIn y) r.2 i) in
       of_variables l y (subst (λ k. IsIn y (variables_before p k)) r.1 (in-tested _ y t))
 
   in_group : (ls : List ℕ) (l y : ℕ) → IsIn l ls → IsIn y (I l) → IsIn y (of_lambdas I ls)
@@ -139,7 +139,7 @@ module _ (p : ProgramTree) (rules : KeepsRules (2 ^ 31) p) where
       Reaches (free I e ++ own e) d
   reaches e (Node u s f) sc b l y i j =
       ⊎_elim (λ k. ⊎_elim (in-left y (free I e) _) (in-right y (free I e) _) (sc y k))
-          (λ k. in-right y (free I e) _ (b y k))
+      (λ k. in-right y (free I e) _ (b y k))
       (at_node u s f l y i j)
 
   some_node : (zs : List ℕ) (ds : List Tree) → Every (Reaches zs) ds → (l y : ℕ) → IsIn l (of_nodes standing_at ds) →
@@ -180,7 +180,7 @@ module _ (p : ProgramTree) (rules : KeepsRules (2 ^ 31) p) where
       let less = greater_at p.lambdas 0 r.0 r.1 rules.inner_greater r.2 l r.3 in
       ⊎_elim (λ v. inside l y r.0 r.1 r.2 (omega arith) h v)
       (λ v. inr (record { number = r.0; lambda = r.1; less = omega arith; there = r.2; here = inr v }))
-          (within r.1.body l y r.3 i))
+      (within r.1.body l y r.3 i))
       (in-either l (of_nodes standing_at (nodes_of p.forms)) _
       (subst (IsIn l) (of_nodes-append standing_at (nodes_of p.forms) (nodes_of_lambdas p.lambdas)) j)))
       (λ j. let r = lifted_found (LiftedKeeps p) p.set l j rules.lifted in
@@ -201,7 +201,7 @@ module _ (p : ProgramTree) (rules : KeepsRules (2 ^ 31) p) where
       every-in (λ z. z < 2 ^ 31) (variables p) y rules.small_variables
       (⊎_elim (form-variable p y)
       (λ c. ⊎_elim (parameter-variable p c.number c.lambda c.there y)
-          (body-variable p c.number c.lambda c.there y) c.here) b)
+      (body-variable p c.number c.lambda c.there y) c.here) b)
 
   pub before-other : (l y : ℕ) (m : LambdaTree) → IsLambda p l m → BoundBefore p l y → IsIn y (own m.body) → ⊥
   before-other l y m e b i =

@@ -137,7 +137,7 @@ module _ (z : ℕ) (small : z < 2 ^ 31) (want : Bool) where
   kind_let w (y ∷ ys) none h q = tt
   kind_let w (y ∷ ys) (more e es) h q =
       let a = times-append z (cond (is_new_cell e) (cond (not w) (y ∷ []) []) (cond (not w) [] (y ∷ [])))
-          (of_kind (not w) ys es) in
+      (of_kind (not w) ys es) in
       (λ t. one w (is_new_cell e) (eq-eqb y z t) (omega arith) ∙ q, kind_let w ys es (omega arith) q)
     where
       one : (v c : Bool) → (y == z) ≡ true → times z (cond c (cond (not v) (y ∷ []) [])
@@ -197,7 +197,7 @@ module _ (p : ProgramTree) (order : List Line) (rules : KeepsRules (2 ^ 31) p) (
   bound_few z =
       let a = apart-times z (K.variables p) rules.bound_once in
       let b = times-append z (of_nodes K.binders (all_nodes p)) (K.variables p) in few
-          (of_nodes K.binders (all_nodes p)) _ a
+      (of_nodes K.binders (all_nodes p)) _ a
     where
       few : (xs ys : List ℕ) → times z (xs ++ ys) ≤ 1 → times z xs ≤ 1
       few xs ys h = let c = times-append z xs ys in omega arith
@@ -207,10 +207,10 @@ module _ (p : ProgramTree) (order : List Line) (rules : KeepsRules (2 ^ 31) p) (
       times z (of_nodes (node_kind (not want)) (all_nodes p)) ≡ 0
   other_none z true i =
       let a = in-times z _ i in let b = nodes_both z (2 ^ 31) p
-          (all_nodes p) rules.nodes in let c = bound_few z in omega arith
+      (all_nodes p) rules.nodes in let c = bound_few z in omega arith
   other_none z false i =
       let a = in-times z _ i in let b = nodes_both z (2 ^ 31) p
-          (all_nodes p) rules.nodes in let c = bound_few z in omega arith
+      (all_nodes p) rules.nodes in let c = bound_few z in omega arith
 
   kept : (z : ℕ) (small : z < 2 ^ 31) (want : Bool) → IsIn z (of_nodes (node_kind want) (all_nodes p)) →
       Every (Kept z small want p) (all_nodes p)
@@ -232,7 +232,7 @@ module _ (p : ProgramTree) (order : List Line) (rules : KeepsRules (2 ^ 31) p) (
       let there = kind_bound_there z true i in
       kinds_in z small true (all_blocks (normal_form p order))
       (whole-all (IsKind z small true) (Kept z small true p) IsInner (IsReady z small true)
-          (kind_walks z small true p) p order
+      (kind_walks z small true p) p order
       (kept z small true i) (inner-forms p p.forms rules.forms) (inner-bodies p p.lambdas rules.bodies))
       (times-in z _ (omega arith))
 
@@ -256,10 +256,10 @@ module _ (p : ProgramTree) (order : List Line) (rules : KeepsRules (2 ^ 31) p) (
         let there = in-times z _ i in
         let both = nodes_both z (2 ^ 31) p (nodes e) (inside _ rules.nodes) in
         let whole = members-all K.plain_binders (all_nodes p) (nodes e) z
-            (inside _ (in-node K.plain_binders (all_nodes p))) i in
+        (inside _ (in-node K.plain_binders (all_nodes p))) i in
         kinds_in z small false (blocks (block_of (line_of order) n e AtEnd))
         (body-all (IsKind z small false) (Kept z small false p) IsInner (IsReady z small false)
-            (kind_walks z small false p)
+        (kind_walks z small false p)
         (line_of order) n e (inside _ (kept z small false whole)) (value, no_cell))
         (times-in z _ (omega arith))
 

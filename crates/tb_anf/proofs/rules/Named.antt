@@ -45,7 +45,7 @@ module _ (x : Context) (calls : Form → Type 0) (taken : ℕ → List ℕ)
   put_names (Then z b) op i =
       ⊎_elim (in-left y (free_op taken op) _)
       (λ j. in-right y (free_op taken op) _ (in-without (z ∷ []) (free_block taken b) y j.1
-          (rw (ne_eqb z y j.0) refl))) i
+      (rw (ne_eqb z y j.0) refl))) i
 
   abbrev Stays : Tree → Type 0
   Stays e = (n : ℕ) (k : After) → (IsIn y (names n e) → ⊥) → IsIn y (free x.inner e) ⊎ Behind k → Names
@@ -141,7 +141,7 @@ module _ (x : Context) (calls : Form → Type 0) (taken : ℕ → List ℕ)
   named_here n [] (more d es) i e q t u h j b = absurd (omega arith)
   named_here n (z ∷ zs) (more d es) zero e q t u h j b =
       u.0 n (Then z b) (λ k. h (in-left y (names n d) _ k)) (inl
-          (subst (λ k. IsIn y (free x.inner k)) (sym (same_Some d e t)) j))
+      (subst (λ k. IsIn y (free x.inner k)) (sym (same_Some d e t)) j))
   named_here n (z ∷ zs) (more d es) (suc i) e q t u h j b =
       named_here (n + size d) zs es i e (omega arith) t u.1 (λ k. h (in-right y (names n d) _ k)) j b
 
@@ -177,10 +177,10 @@ module _ (x : Context) (calls : Form → Type 0) (taken : ℕ → List ℕ)
       let behind = λ (j : IsIn y (free_all x.inner (more d ds)) ⊎ Behind k).
       sequence_stays (n + size e) d ds k u.1 (λ z. h (in-right y (names n e) _ z)) j in
       u.0 n (Then (value_name n) (block_of_sequence x.line (n + size e) (more d ds) k))
-          (λ j. h (in-left y (names n e) _ j))
+      (λ j. h (in-left y (names n e) _ j))
       (⊎_elim
       (λ j. ⊎_elim inl (λ z. inr (λ q. h (in-left y (names n e) _ (own_name e q)), behind (inl z)))
-          (in-either y (free x.inner e) _ j))
+      (in-either y (free x.inner e) _ j))
       (λ j. inr (λ q. h (in-left y (names n e) _ (own_name e q)), behind (inr j))) i)
     where
       own_name : (e : Tree) → value_name n ≡ y → IsIn y (names n e)
@@ -270,7 +270,7 @@ module _ (x : Context) (calls : Form → Type 0) (taken : ℕ → List ℕ)
     form_names p s (Call f es) pr a n k h i =
         some_stay (suc n) (more f es) (numbers (x.line s) (Call f es)) k _
         (block-names f (every-left _ (nodes f) _ a), all_names es (every-right _ (nodes f) _ a)) h (pr.permuted refl)
-            (λ j. j) i
+        (λ j. j) i
     form_names p s (Direct l es) pr a n k h i =
         some_stay (suc n) es (numbers (x.line s) (Direct l es)) k _ (all_names es a) h (pr.permuted refl) (λ j. j) i
     form_names p s (PrimUse q es) pr a n k h i =
@@ -278,14 +278,14 @@ module _ (x : Context) (calls : Form → Type 0) (taken : ℕ → List ℕ)
     form_names p s (Apply f l) pr a n k h i =
         some_stay (suc n) (more f (more l none)) (numbers (x.line s) (Apply f l)) k _
         (block-names f (every-left _ (nodes f) _ a), (block-names l (every-right _ (nodes f) _ a), tt)) h
-            (pr.permuted refl)
+        (pr.permuted refl)
         (λ j. ⊎_elim (in-left y (free_of_atom (atom (suc n) f)) _)
         (λ z. in-right y (free_of_atom (atom (suc n) f)) _
         (⊎_elim (λ v. v) (λ v. absurd v) (in-either y (free_of_atom (atom (suc n + size f) l)) [] z)))
         (in-either y (free_of_atom (atom (suc n) f)) _ j))
         (⊎_elim (λ j. inl (⊎_elim (in-left y (free x.inner f) _)
         (λ z. in-right y (free x.inner f) _ (in-left y (free x.inner l) [] z))
-            (in-either y (free x.inner f) _ j))) inr i)
+        (in-either y (free x.inner f) _ j))) inr i)
 
     all_names : (es : Trees) → Every (ProperNode x calls) (nodes_of es) → AllStay es
     all_names none a = tt

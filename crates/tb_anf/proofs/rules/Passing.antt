@@ -114,7 +114,7 @@ module _ (n : ℕ) where
 
   pub parameters-few : (p : ProgramTree) (order : List Line) → ((l : ℕ) (c : LambdaTree) → IsLambda p l c →
       length (parameters c) + length (added_to p.set l) ≤ n) → Every (λ (q : ProcTree). length q.params ≤ n)
-          (normal_form p order).procs
+      (normal_form p order).procs
   parameters-few p order h =
       procs_few p (line_of order) 0 p.forms _ (lambdas_few p (line_of order) 0 (size_all p.forms) p.lambdas
       (λ k c e. subst (λ z. length (parameters c) + length (added_to p.set z) ≤ n) (same k) (h k c e)))

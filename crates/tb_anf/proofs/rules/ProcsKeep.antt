@@ -155,11 +155,11 @@ module _ (p : ProgramTree) (order : List Line) (rules : KeepsRules (2 ^ 31) p) (
         (λ y i. ⊎_elim (λ j. let k = h y j in (in-left y target plain k.0, k.1))
         (λ j. let lt = small y (in-left y (of_nodes K.binders (all_nodes p)) _ (plain-binder p (2 ^ 31) rules.nodes y
         (members-all p order rules lines K.plain_binders (all_nodes p) (nodes e) y
-            (inside _ (in-node K.plain_binders (all_nodes p))) j))) in
+        (inside _ (in-node K.plain_binders (all_nodes p))) j))) in
         (in-right y target plain (plain-stay p order rules lines e inside b.value b.no_cell y lt n j), lt))
         (in-either y source _ i))
         n e (every-zip (NodeKeeps (2 ^ 31) p) _ _ (nodes e) (λ d u v. (u, v))
-            (inside _ rules.nodes) b.makes_cells) b.value b.no_cell
+        (inside _ rules.nodes) b.makes_cells) b.value b.no_cell
 
   -- a form, where its blocks bind each variable once
   form_keeps : (n : ℕ) (e : Tree) → ((P : Tree → Type 0) → Every P (all_nodes p) → Every P (nodes e)) →
@@ -199,7 +199,7 @@ module _ (p : ProgramTree) (order : List Line) (rules : KeepsRules (2 ^ 31) p) (
     plain_parameters : (IsIn l (map (λ (k : Lifted). k.lambda) p.set) → ⊥) → ParametersKeep
     plain_parameters h =
         let same : all_params ≡ parameters m = sym same_params ∙ ap (λ ys. parameters m ++ ys) (added_none p.set l h)
-            ∙ append-nil (parameters m) in
+        ∙ append-nil (parameters m) in
         record {
           apart = subst IsApart (sym same) (params-once p rules.bound_once l m there);
           other = λ y i j. no-parameter p rules.bound_once l l m m there there y j (subst (IsIn y) same i);
@@ -227,7 +227,7 @@ module _ (p : ProgramTree) (order : List Line) (rules : KeepsRules (2 ^ 31) p) (
     param_small : (y : ℕ) → IsIn y all_params → y < 2 ^ 31
     param_small y i =
         ⊎_elim (λ j. small y (parameter-variable p l m there y j))
-            (λ j. before-small p rules l y (added-before p rules l y j))
+        (λ j. before-small p rules l y (added-before p rules l y j))
         (in-either y (parameters m) (added_to p.set l) (subst (IsIn y) (sym same_params) i))
 
     captured_before : (y : ℕ) → IsIn y (captured p l) → BoundBefore p l y
@@ -255,7 +255,7 @@ module _ (p : ProgramTree) (order : List Line) (rules : KeepsRules (2 ^ 31) p) (
           in_scope = every-from _ _ (λ y i. tested-in (captured p l) y (in_captured l y
               (subst (IsIn y) (sym inner) (in-without all_params (free I m.body) y
               (at_end_uses x Any taken fewer m.body n y uses (without-sub all_params _ y i))
-                  (without-out all_params _ y i)))));
+              (without-out all_params _ y i)))));
           captures_named = every-from _ _ (λ y i.
               let j = subst (IsIn y) inner (captured-free p l y i) in
               let c = captured_before y i in
@@ -263,11 +263,11 @@ module _ (p : ProgramTree) (order : List Line) (rules : KeepsRules (2 ^ 31) p) (
               (body-names x Any taken no_fewer y m.body (inside _ proper) n
               (λ k. ⊎_elim (before-other p rules l y m there c)
               (λ w. let lt = before-small p rules l y c in let e = w.same in absurd (omega arith))
-                  ((names-bound m.body n).each y k))
+              ((names-bound m.body n).each y k))
               (without-sub all_params (free I m.body) y j)) (without-out all_params (free I m.body) y j)));
           makes_cells = cells_keep m.body inside n (parameters m) all_params b (λ y i.
               let j = subst (IsIn y) same_params (in-left y (parameters m) (added_to p.set l) i) in
-                  (j, param_small y j));
+              (j, param_small y j));
           inner_greater = every-from _ _ (λ k i. let lt = greater_at p.lambdas 0 l m rules.inner_greater there k
               (block_stands m.body inside n k i) in omega arith);
           rest_has_name = λ t. rest_named m.rest t;
@@ -302,12 +302,12 @@ module _ (p : ProgramTree) (order : List Line) (rules : KeepsRules (2 ^ 31) p) (
       (l + k) m) →
       l + length ms ≡ length p.lambdas → ((P : Tree → Type 0) → Every P (all_nodes p) → Every P (nodes_of_lambdas ms)) →
       Every (λ (m : LambdaTree). BodyKeeps p (parameters m) m.body) ms → IsApart
-          (bound_in (lambda_procs p line l n ms)) →
+      (bound_in (lambda_procs p line l n ms)) →
       Every (ProcKeeps the_form) (lambda_procs p line l n ms)
   lambdas_keep l n [] there long inside b apart = tt
   lambdas_keep l n (m ∷ ms) there long inside b apart =
       let split = subst IsApart (first_bound (lambda_proc p line l n m)
-          (lambda_procs p line (suc l) (n + size m.body) ms)) apart in (
+      (lambda_procs p line (suc l) (n + size m.body) ms)) apart in (
         lambda_keeps l m (subst (λ z. IsLambda p z m) (zero_more l) (there 0 m refl)) (omega arith) n
             (λ P h. every-left P (nodes m.body) _ (inside P h)) b.0 (apart-left _ _ split),
         lambdas_keep (suc l) (n + size m.body) ms (λ k c e. subst (λ z. IsLambda p z c) (one_more l k)
@@ -324,14 +324,14 @@ module _ (p : ProgramTree) (order : List Line) (rules : KeepsRules (2 ^ 31) p) (
   procs_keep : (n : ℕ) (es : Trees) → ((P : Tree → Type 0) → Every P (all_nodes p) → Every P (nodes_of es)) →
       FormsKeep p es →
       ((y : ℕ) → IsIn y (free_all I es) → ⊥) → (qs : List ProcTree) →
-          (IsApart (bound_in qs) → Every (ProcKeeps the_form) qs) →
+      (IsApart (bound_in qs) → Every (ProcKeeps the_form) qs) →
       IsApart (bound_in (form_procs line n es ++ qs)) → Every (ProcKeeps the_form) (form_procs line n es ++ qs)
   procs_keep n none inside b closed qs h apart = h apart
   procs_keep n (more e es) inside b closed qs h apart =
       let split = subst IsApart (first_bound (form_proc line n e) (form_procs line (n + size e) es ++ qs)) apart in (
         form_keeps n e (λ P g. every-left P (nodes e) _ (inside P g)) b.0 (λ y i. closed y (in-left y (free I e) _ i))
             (apart-left _ _ (subst (λ c. IsApart (of_each N.binders (blocks c) ++ bound_in
-                (form_procs line (n + size e) es ++ qs))) (form_body e) split)),
+            (form_procs line (n + size e) es ++ qs))) (form_body e) split)),
         procs_keep (n + size e) es (λ P g. every-right P (nodes e) _ (inside P g)) b.1
             (λ y i. closed y (in-right y (free I e) _ i)) qs h
             (apart-right _ _ split),
@@ -344,10 +344,10 @@ module _ (p : ProgramTree) (order : List Line) (rules : KeepsRules (2 ^ 31) p) (
   unfolding bound_in
   procs-keep =
       procs_keep 0 p.forms (λ P h. every-left P (nodes_of p.forms) _ h) rules.forms
-          (λ y i. subst (IsIn y) rules.in_scope i)
+      (λ y i. subst (IsIn y) rules.in_scope i)
       (lambda_procs p line 0 (size_all p.forms) p.lambdas)
       (λ a. lambdas_keep 0 (size_all p.forms) p.lambdas (λ k m e. subst (λ z. IsLambda p z m) (none_more k) e)
-          (omega arith)
+      (omega arith)
       (λ P h. every-right P (nodes_of p.forms) _ h) rules.bodies a)
       (whole_apart (bound-once p order proper rules.bound_once rules.small_variables))
     where
