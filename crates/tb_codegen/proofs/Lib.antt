@@ -53,6 +53,9 @@ pub mod Space
 pub mod Keeping
 pub mod Begin
 pub mod Follows
+pub mod Windows
+pub mod Jumps
+pub mod Ahead
 pub mod Walks
 pub mod Marks
 pub mod MarkSteps
