@@ -56,6 +56,8 @@ pub mod Follows
 pub mod Windows
 pub mod Jumps
 pub mod Ahead
+pub mod Nearing
 pub mod Walks
+pub mod Quick
 pub mod Marks
 pub mod MarkSteps
