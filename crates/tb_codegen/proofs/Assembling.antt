@@ -132,7 +132,7 @@ mark-label e = cc
 mark-note : {l m : ℕ} {n o : Note} → Mark l n ≡ Mark m o → n ≡ o
 mark-note e = cc
 
-other-label : (m l base : ℕ) (js : List Noted) → (m ≡ l → ⊥) →
+pub other-label : (m l base : ℕ) (js : List Noted) → (m ≡ l → ⊥) →
     cond (m == l) (Some base) (stands_at l base (map item_of js)) ≡ stands_at l base (map item_of js)
 other-label m l base js ne = by (m == l) refl
   where

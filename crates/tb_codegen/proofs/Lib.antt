@@ -53,6 +53,11 @@ pub mod Space
 pub mod Keeping
 pub mod Begin
 pub mod Follows
+pub mod Windows
+pub mod Jumps
+pub mod Ahead
+pub mod Nearing
 pub mod Walks
+pub mod Quick
 pub mod Marks
 pub mod MarkSteps
