@@ -51,3 +51,4 @@ pub mod LambdaRanges
 pub mod KeepingRules
 pub mod GlobalNames
 pub mod LongNames
+pub mod CharacterRanges
