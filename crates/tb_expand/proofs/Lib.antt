@@ -52,3 +52,7 @@ pub mod KeepingRules
 pub mod GlobalNames
 pub mod LongNames
 pub mod CharacterRanges
+pub mod NodeWeights
+pub mod QuotedWeights
+pub mod FewStatics
+pub mod CountedObjects

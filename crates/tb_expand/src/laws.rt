@@ -16,6 +16,7 @@ ghost use Rattle.tb_expand.specs.Means.{Means, Refuses};
 ghost use Rattle.tb_expand.specs.Refusals.{Refusal};
 ghost use Rattle.tb_expand.specs.declared.context.Context.{Context};
 ghost use Rattle.tb_expand.specs.Scopes.{State};
+ghost use Rattle.tb_expand.specs.StaticWords.{words_of_statics};
 ghost use Rattle.tb_expand.specs.Texts.{MeansText, RefusesText};
 ghost use Rattle.tb_expand.specs.Trees.{Node, Nodes, Var, same_var};
 ghost use Rattle.tb_prim.specs.declared.constant.GlobalName.{GlobalName};
@@ -148,4 +149,10 @@ pub fn global_names_are_long()
 pub fn characters_are_bytes()
     ensures forms { (library : Bool) (n : ℕ) (ds : datum.Trees) (es : Nodes) → AreRead n ds → MeansText library ds es → EachAll (λ (s : ℕ) (f : Form). CharacterIn f) (program_of library es).forms }
     ensures lambdas { (library : Bool) (n : ℕ) (ds : datum.Trees) (es : Nodes) → AreRead n ds → MeansText library ds es → Every (λ (l : LambdaTree). Each (λ (s : ℕ) (f : Form). CharacterIn f) l.body) (program_of library es).lambdas }
+{}
+
+/// The program of a text has at most 1,000,000 static objects, of 4,194,304 words at most.
+pub fn texts_make_few_statics()
+    ensures objects { (library : Bool) (ds : datum.Trees) (es : Nodes) → MeansText library ds es → length (program_of library es).statics ≤ 1000000 }
+    ensures words { (library : Bool) (ds : datum.Trees) (es : Nodes) → MeansText library ds es → words_of_statics (program_of library es).statics ≤ 4194304 }
 {}
