@@ -19,7 +19,7 @@ use Rattle.tb_expand.specs.Means.{a_constant, a_name, operands, a_sequence, a_la
 use Rattle.tb_expand.specs.Texts.{MeansForm, MeansForms, MeansText, an_expression, a_global, forms_of_begin, no_form, one_form, a_text}
 use Rattle.tb_expand.specs.Numbers.{nodes, nodes_in, nodes_of_all}
 use Rattle.tb_expand.specs.Closed.{binders_of, binders_in, binders_of_all, one_if, times}
-use Rattle.tb_expand.proofs.ShortConstants.{both_true}
+use Rattle.tb_expand.proofs.ShortConstants.{both_true, within_one}
 use Rattle.tb_expand.proofs.Times.{times_joined}
 use Rattle.tb_expand.proofs.SplitCounts.{split_counted, split_binds}
 use Rattle.tb_expand.proofs.GoodExpressions.{IsGood, IsGoodName, good_expression}
@@ -33,10 +33,6 @@ pub record Steps (n v : ℕ) (st st' : State) : Type 0 where
   pub variables : st'.variables ≡ st.variables + v
   pub scopes : st'.scopes ≡ st.scopes
   pub limits : InLimits st → InLimits st'
-
-within_one : (b : Bool) (new st : State) (r : Refusal) → cond b (Within new) (Past r) ≡ Within st → (b ≡ true) × (new ≡ st)
-within_one true new st r e = (refl, cc)
-within_one false new st r e = absurd cc
 
 pub counted_steps : (p : Place) (n v : ℕ) (st st' : State) → counted p n v st ≡ Within st' → Steps n v st st'
 unfolding counted

@@ -51,3 +51,8 @@ pub mod LambdaRanges
 pub mod KeepingRules
 pub mod GlobalNames
 pub mod LongNames
+pub mod CharacterRanges
+pub mod NodeWeights
+pub mod QuotedWeights
+pub mod FewStatics
+pub mod CountedObjects

@@ -6,9 +6,9 @@ use Rattle.std.proofs.lemmas.Slice.Eq.{bytes_eq-Decides}
 use Rattle.tb_prim.specs.declared.place.Place.{Place}
 use Rattle.tb_core.specs.Rules.{Every}
 use Rattle.tb_sexp.specs.Tree as datum
-use Rattle.tb_expand.specs.Refusals.{Budget}
+use Rattle.tb_expand.specs.Refusals.{Refusal, Budget}
 use Rattle.tb_expand.specs.Scopes.{State}
-use Rattle.tb_expand.specs.Limits.{Within, Past, counted, even, byte_words, one_object, symbol_object, how_many_data, with_objects, with_objects_of, with_pairs, with_each, has_room, with_constant}
+use Rattle.tb_expand.specs.Limits.{Within, Past, even, byte_words, one_object, symbol_object, how_many_data, with_objects, with_objects_of, with_pairs, with_each, has_room, with_constant}
 use Rattle.tb_expand.specs.Expressions.{are_fixnums, are_fixnums_in, are_fixnums_all}
 use Rattle.tb_expand.specs.Constants.{IsShort, IsShortIn, AreShort}
 
@@ -109,21 +109,14 @@ mutual
       let b = each_short ds (with_objects d st) g.1 a.1 le in
       ((a.0, b.0), b.1)
 
-within_one : (b : Bool) (new st : State) (p : Place) → cond b (Within new) (Past (Budget p)) ≡ Within st → (b ≡ true) × (new ≡ st)
-within_one true new st p e = (refl, cc)
-within_one false new st p e = absurd cc
+pub within_one : (b : Bool) (new st : State) (r : Refusal) → cond b (Within new) (Past r) ≡ Within st → (b ≡ true) × (new ≡ st)
+within_one true new st r e = (refl, cc)
+within_one false new st r e = absurd cc
 
 pub constant_short : (p : Place) (s : datum.Shape) (st st' : State) → with_constant p s st ≡ Within st' → are_fixnums_in s ≡ true → AreShortTexts st.symbols → IsShortIn s × AreShortTexts st'.symbols
 unfolding with_constant
 constant_short p s st st' e f h =
-    let o = within_one (has_room (with_objects_of s st)) (with_objects_of s st) st' p e in
+    let o = within_one (has_room (with_objects_of s st)) (with_objects_of s st) st' (Budget p) e in
     let r = both_true (nat_le (with_objects_of s st).objects 1000000) (nat_le (with_objects_of s st).words 4194304) o.0 in
     let a = shape_short s st f h (leb-true (with_objects_of s st).words 4194304 r.1) in
     (a.0, subst (λ (x : State). AreShortTexts x.symbols) o.1 a.1)
-
--- limits on nodes leave the symbols
-pub counted_symbols : (p : Place) (n v : ℕ) (st st' : State) → counted p n v st ≡ Within st' → st.symbols ≡ st'.symbols
-unfolding counted
-counted_symbols p n v st st' e =
-    let o = within_one (nat_le (st.nodes + n) 1000000 && nat_le (st.variables + v) (2 ^ 24)) (record st { nodes = st.nodes + n; variables = st.variables + v }) st' p e in
-    ap (λ (x : State). x.symbols) o.1

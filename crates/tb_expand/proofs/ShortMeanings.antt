@@ -1,5 +1,5 @@
 -- What a text means has short constants.
-use Rattle.std.proofs.Common.{◌≡◌, refl, subst, ℕ, ◌+◌, ◌^◌, ◌==◌, ◌&&◌, not, nat_le, Bool, true, false, cond, List, [], ◌∷◌, length, Option, Some, None}
+use Rattle.std.proofs.Common.{◌≡◌, refl, subst, ◌∙◌, ℕ, ◌+◌, ◌^◌, ◌==◌, ◌&&◌, not, nat_le, Bool, true, false, cond, List, [], ◌∷◌, length, Option, Some, None}
 use Rattle.tb_prim.specs.declared.place.Place.{Place}
 use Rattle.tb_prim.specs.declared.primitive.Primitive.{Primitive}
 use Rattle.tb_prim.specs.Primitives.{arity_of}
@@ -99,35 +99,35 @@ good_expression st c (datum.At p (datum.Proper (datum.more h ds))) = good_by_hea
 good_expression st c (datum.At p (datum.Dotted ds d)) = tt
 good_expression st c (datum.At p (datum.Vector ds)) = tt
 
--- limits leave the symbols
-abbrev Leaves : State → Limited → Type 0
-Leaves st (Within mid) = st.symbols ≡ mid.symbols
+-- limits on nodes leave the static objects
+abbrev pub Leaves : State → Limited → Type 0
+Leaves st (Within mid) = (st.symbols ≡ mid.symbols) × (st.objects ≡ mid.objects) × (st.words ≡ mid.words)
 Leaves st (Past r) = Unit {0}
 
 leaves_either : (st : State) (b : Bool) (l m : Limited) → Leaves st l → Leaves st m → Leaves st (cond b l m)
 leaves_either st true l m h k = h
 leaves_either st false l m h k = k
 
-counted_leaves : (p : Place) (n v : ℕ) (st : State) → Leaves st (counted p n v st)
+pub counted_leaves : (p : Place) (n v : ℕ) (st : State) → Leaves st (counted p n v st)
 unfolding counted
-counted_leaves p n v st = leaves_either st (nat_le (st.nodes + n) 1000000 && nat_le (st.variables + v) (2 ^ 24)) (Within (record st { nodes = st.nodes + n; variables = st.variables + v })) (Past (refusal.Budget p)) refl tt
+counted_leaves p n v st = leaves_either st (nat_le (st.nodes + n) 1000000 && nat_le (st.variables + v) (2 ^ 24)) (Within (record st { nodes = st.nodes + n; variables = st.variables + v })) (Past (refusal.Budget p)) (refl, refl, refl) tt
 
-opened_leaves : (p : Place) (n v : ℕ) (st : State) (c : Context) → Leaves st (opened p n v st c)
+pub opened_leaves : (p : Place) (n v : ℕ) (st : State) (c : Context) → Leaves st (opened p n v st c)
 unfolding opened
 opened_leaves p n v st c = leaves_either st (c.levels == 0) (Past (refusal.TooDeep p)) (counted p n v st) tt (counted_leaves p n v st)
 
-bound_leaves : (p : Place) (n : ℕ) (st : State) (c : Context) → Leaves st (bound_together p n st c)
-bound_leaves p n st c = leaves_either st (n == 0) (Within st) (opened p 0 n st c) refl (opened_leaves p 0 n st c)
+pub bound_leaves : (p : Place) (n : ℕ) (st : State) (c : Context) → Leaves st (bound_together p n st c)
+bound_leaves p n st c = leaves_either st (n == 0) (Within st) (opened p 0 n st c) (refl, refl, refl) (opened_leaves p 0 n st c)
 
 deep_leaves : (st : State) (o : Option Place) (l : Limited) → Leaves st l → Leaves st (not_deep o l)
 deep_leaves st None l h = h
 deep_leaves st (Some p) l h = tt
 
-finished_leaves : (p : Place) (s : Split) (c : Context) (st : State) → Leaves st (finished p s c st)
+pub finished_leaves : (p : Place) (s : Split) (c : Context) (st : State) → Leaves st (finished p s c st)
 finished_leaves p s c st = deep_leaves st (first_deep c.levels (node_of p s)) (counted p (inserted s) 0 st) (counted_leaves p (inserted s) 0 st)
 
 still_short : (st mid : State) (l : Limited) → Leaves st l → l ≡ Within mid → AreShortTexts st.symbols → AreShortTexts mid.symbols
-still_short st mid l k e h = subst AreShortTexts (subst (Leaves st) e k) h
+still_short st mid l k e h = subst AreShortTexts (subst (Leaves st) e k).0 h
 
 -- nodes of parts
 abbrev IsShortOption : Option Core → Type 0
@@ -189,11 +189,15 @@ joined_short : (es fs : Nodes) → HaveShort es → HaveShort fs → HaveShort (
 joined_short nil fs h k = k
 joined_short (cons e es) fs h k = (h.0, joined_short es fs h.1 k)
 
+-- and so does a scan
+pub scan_leaves : {st : State} {c : Context} {ds : datum.Trees} {f : Found} {st' : State} → Scans st c ds f st' → Leaves st (Within st')
+scan_leaves scanned = (refl, refl, refl)
+scan_leaves (expressions k) = (refl, refl, refl)
+scan_leaves (a_definition k i s) = scan_leaves s
+scan_leaves (a_begin k s q t) = let a = scan_leaves s in let b = scan_leaves t in (a.0 ∙ b.0, a.1 ∙ b.1, a.2 ∙ b.2)
+
 scan_short : {st : State} {c : Context} {ds : datum.Trees} {f : Found} {st' : State} → Scans st c ds f st' → AreShortTexts st.symbols → AreShortTexts st'.symbols
-scan_short scanned h = h
-scan_short (expressions k) h = h
-scan_short (a_definition k i s) h = scan_short s h
-scan_short (a_begin k s q t) h = scan_short t (scan_short s h)
+scan_short {st = st} {st' = st'} s h = still_short st st' (Within st') (scan_leaves s) refl h
 
 mutual
   means_short : {st : State} {c : Context} {d : datum.Tree} {e : Node} {st' : State} → Means st c d e st' → AreShortTexts st.symbols → HasShort e × AreShortTexts st'.symbols

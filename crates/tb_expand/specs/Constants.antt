@@ -2,6 +2,7 @@
 -- fewer than 2^24 bytes and elements.
 use Rattle.std.specs.Prelude.{◌≡◌, ℕ, ◌<◌, ◌^◌, true, length}
 use Rattle.tb_prim.specs.Fixnums.{is_fixnum}
+use Rattle.tb_prim.specs.declared.constant.Const.{Const}
 use Rattle.tb_core.specs.Rules.{ConstKeeps}
 use Rattle.tb_core.specs.Tree as core
 use Rattle.tb_core.specs.Tree.{Form}
@@ -72,3 +73,30 @@ ConstantIn n (core.Seq es) = Unit {0}
 ConstantIn n (core.Call f es) = Unit {0}
 ConstantIn n (core.PrimUse q es) = Unit {0}
 ConstantIn n (core.Apply f l) = Unit {0}
+
+-- a constant that is a character is a byte
+abbrev pub CharacterKeeps : Const → Type 0
+CharacterKeeps (Const.Fix n) = Unit {0}
+CharacterKeeps (Const.Char c) = c < 256
+CharacterKeeps (Const.Bool b) = Unit {0}
+CharacterKeeps Const.Nil = Unit {0}
+CharacterKeeps Const.Unspecified = Unit {0}
+CharacterKeeps Const.Undefined = Unit {0}
+CharacterKeeps (Const.Stat n) = Unit {0}
+
+-- the same of the constant of a node
+abbrev pub CharacterIn : Form → Type 0
+CharacterIn (core.Quote c) = CharacterKeeps c
+CharacterIn (core.Local x) = Unit {0}
+CharacterIn (core.Global g) = Unit {0}
+CharacterIn (core.Lambda l) = Unit {0}
+CharacterIn (core.If a b c) = Unit {0}
+CharacterIn (core.SetLocal x e) = Unit {0}
+CharacterIn (core.SetGlobal g e) = Unit {0}
+CharacterIn (core.DefGlobal g e) = Unit {0}
+CharacterIn (core.Let xs es e) = Unit {0}
+CharacterIn (core.Letrec xs ls e) = Unit {0}
+CharacterIn (core.Seq es) = Unit {0}
+CharacterIn (core.Call f es) = Unit {0}
+CharacterIn (core.PrimUse q es) = Unit {0}
+CharacterIn (core.Apply f l) = Unit {0}

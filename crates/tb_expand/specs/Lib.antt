@@ -15,6 +15,7 @@ pub mod Numbers
 pub mod Constants
 pub mod WellShaped
 pub mod Ranges
+pub mod StaticWords
 pub mod Closed
 pub mod Programs
 pub mod View

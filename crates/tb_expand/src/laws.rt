@@ -7,7 +7,7 @@ ghost use Rattle.tb_core.specs.OperandOrder.{Line, order_of};
 ghost use Rattle.tb_core.specs.Variables.{variables};
 ghost use Rattle.tb_core.specs.Rules.{Each, EachAll, Every, InnerAreGreater, IsShaped, KeepsRules, standing, StaticsKeep, size_all, size_of_lambdas};
 ghost use Rattle.tb_core.specs.Tree.{Form, LambdaTree};
-ghost use Rattle.tb_expand.specs.Constants.{ConstantIn, HaveShort};
+ghost use Rattle.tb_expand.specs.Constants.{CharacterIn, ConstantIn, HaveShort};
 ghost use Rattle.tb_expand.specs.Numbers.{nodes_of_all, program_of, statics_of_all};
 ghost use Rattle.tb_expand.specs.Ranges.{GlobalIn, IsLong, IsNamed, LambdaIn};
 ghost use Rattle.tb_expand.specs.Closed.{AreClosed, binders_of_all, times};
@@ -16,10 +16,12 @@ ghost use Rattle.tb_expand.specs.Means.{Means, Refuses};
 ghost use Rattle.tb_expand.specs.Refusals.{Refusal};
 ghost use Rattle.tb_expand.specs.declared.context.Context.{Context};
 ghost use Rattle.tb_expand.specs.Scopes.{State};
+ghost use Rattle.tb_expand.specs.StaticWords.{words_of_statics};
 ghost use Rattle.tb_expand.specs.Texts.{MeansText, RefusesText};
 ghost use Rattle.tb_expand.specs.Trees.{Node, Nodes, Var, same_var};
 ghost use Rattle.tb_prim.specs.declared.constant.GlobalName.{GlobalName};
 ghost use Rattle.tb_sexp.specs.DatumRules.{AreLawful};
+ghost use Rattle.tb_sexp.specs.ReadData.{AreRead};
 ghost use Rattle.tb_sexp.specs.Tree as datum;
 
 /// A datum has one meaning or one first refusal in a context, and not both.
@@ -141,4 +143,16 @@ pub fn texts_name_few_globals()
 /// The names of the globals that a text of lawful data names have 1 to 255 bytes.
 pub fn global_names_are_long()
     ensures { (library : Bool) (ds : datum.Trees) (es : Nodes) → AreLawful ds → MeansText library ds es → Every (λ (g : GlobalName). IsLong g.name) (program_of library es).globals }
+{}
+
+/// The characters that the nodes of a text name are bytes, where its data are those that reading gives.
+pub fn characters_are_bytes()
+    ensures forms { (library : Bool) (n : ℕ) (ds : datum.Trees) (es : Nodes) → AreRead n ds → MeansText library ds es → EachAll (λ (s : ℕ) (f : Form). CharacterIn f) (program_of library es).forms }
+    ensures lambdas { (library : Bool) (n : ℕ) (ds : datum.Trees) (es : Nodes) → AreRead n ds → MeansText library ds es → Every (λ (l : LambdaTree). Each (λ (s : ℕ) (f : Form). CharacterIn f) l.body) (program_of library es).lambdas }
+{}
+
+/// The program of a text has at most 1,000,000 static objects, of 4,194,304 words at most.
+pub fn texts_make_few_statics()
+    ensures objects { (library : Bool) (ds : datum.Trees) (es : Nodes) → MeansText library ds es → length (program_of library es).statics ≤ 1000000 }
+    ensures words { (library : Bool) (ds : datum.Trees) (es : Nodes) → MeansText library ds es → words_of_statics (program_of library es).statics ≤ 4194304 }
 {}
