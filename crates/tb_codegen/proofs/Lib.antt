@@ -57,6 +57,7 @@ pub mod Windows
 pub mod Jumps
 pub mod Ahead
 pub mod Nearing
+pub mod Counts
 pub mod Walks
 pub mod Quick
 pub mod Marks
