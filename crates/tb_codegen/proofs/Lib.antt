@@ -58,6 +58,7 @@ pub mod Jumps
 pub mod Ahead
 pub mod Nearing
 pub mod Counts
+pub mod Weights
 pub mod Walks
 pub mod Quick
 pub mod Marks
