@@ -3,7 +3,7 @@ use Rattle.std.proofs.Common.{◌≡◌, ℕ, suc, ◌≤◌, ◌+◌, ◌*◌, 
 use Rattle.std.proofs.Math.Nat.{mul-add}
 use Rattle.tb_core.specs.FreeVariables.{is_in}
 use Rattle.tb_ir.specs.AnfTree.{Operand, Block, Bind, CloseAll, Tail, Op, Atom, Global, SetGlobal, DefGlobal, PrimUse, NewCell, CellGet, CellSet, Close, Call, Direct, Apply, Branch, AnfTree}
-use Rattle.tb_ir.specs.AnfRules.{blocks, blocks_in, celled, of_each, operation}
+use Rattle.tb_ir.specs.AnfRules.{blocks, blocks_in, celled, closed_by, of_each, operation, standing_at}
 use Rattle.tb_ir.specs.AnfWidth as Widths
 use Rattle.tb_mac.specs.declared.code.Instr.TheVariants as I
 use Rattle.tb_mac.specs.Assemble.{instructions}
@@ -156,14 +156,35 @@ made bs = of_each celled (of_each operation bs)
 pub made-append : (xs ys : List Block) → made (xs ++ ys) ≡ made xs ++ made ys
 made-append xs ys = ap (of_each celled) (each-append operation xs ys) ∙ each-append celled (of_each operation xs) (of_each operation ys)
 
-made-both : (xs ys : List Block) → length (made (xs ++ ys)) ≡ length (made xs) + length (made ys)
+pub made-both : (xs ys : List Block) → length (made (xs ++ ys)) ≡ length (made xs) + length (made ys)
 made-both xs ys = ap length (made-append xs ys) ∙ length-append (made xs) (made ys)
 
-made-bind : (x : ℕ) (op : Op) (k : Block) → length (made (blocks (Bind x op k))) ≡ length (celled op) + (length (made (blocks_in op)) + length (made (blocks k)))
+pub made-bind : (x : ℕ) (op : Op) (k : Block) → length (made (blocks (Bind x op k))) ≡ length (celled op) + (length (made (blocks_in op)) + length (made (blocks k)))
 made-bind x op k =
     let a = made-both (blocks_in op) (blocks k) in
     let b = length-append (celled op) (made (blocks_in op ++ blocks k)) in
     omega (arith, a, b)
+
+-- the lambda expressions that stand at blocks
+abbrev pub stood : List Block → List ℕ
+stood bs = of_each standing_at bs
+
+pub stood-both : (xs ys : List Block) → length (stood (xs ++ ys)) ≡ length (stood xs) + length (stood ys)
+stood-both xs ys = ap length (each-append standing_at xs ys) ∙ length-append (stood xs) (stood ys)
+
+closed-alone : (op : Op) → length (closed_by op ++ []) ≡ length (closed_by op)
+closed-alone op = let a = length-append (closed_by op) [] in omega (arith, a)
+
+pub stood-tail : (op : Op) → length (stood (blocks (Tail op))) ≡ length (closed_by op) + length (stood (blocks_in op))
+stood-tail op = let a = length-append (closed_by op ++ []) (stood (blocks_in op)) in let c = closed-alone op in omega (arith, a, c)
+
+pub stood-bind : (x : ℕ) (op : Op) (k : Block) →
+    length (stood (blocks (Bind x op k))) ≡ length (closed_by op) + (length (stood (blocks_in op)) + length (stood (blocks k)))
+stood-bind x op k =
+    let a = stood-both (blocks_in op) (blocks k) in
+    let b = length-append (closed_by op ++ []) (stood (blocks_in op ++ blocks k)) in
+    let c = closed-alone op in
+    omega (arith, a, b, c)
 
 module _ (p : AnfTree) (all : List Noted) (home : ℕ → ℕ) (size : ℕ) (K : ℕ) where
   abbrev c : Body
@@ -172,7 +193,7 @@ module _ (p : AnfTree) (all : List Noted) (home : ℕ → ℕ) (size : ℕ) (K :
   -- operations of at most this weight
   abbrev pub AllLight : List ℕ → Type 0
   AllLight [] = Unit {0}
-  AllLight (m ∷ ms) = (3 + 2 * length (captured_in p m) ≤ K) × AllLight ms
+  AllLight (m ∷ ms) = (4 + 2 * length (captured_in p m) ≤ K) × AllLight ms
 
   abbrev mutual
     pub BlockLight : Block → Type 0
@@ -182,10 +203,10 @@ module _ (p : AnfTree) (all : List Noted) (home : ℕ → ℕ) (size : ℕ) (K :
 
     pub ArmsLight : Op → Type 0
     ArmsLight (Branch a b d) = (3 ≤ K) × (BlockLight b × BlockLight d)
-    ArmsLight op = weight (captured_in p) op ≤ K * Widths.operations_in op + 4 * length (celled op)
+    ArmsLight op = weight (captured_in p) op + length (closed_by op) ≤ K * Widths.operations_in op + 4 * length (celled op)
 
   writes-count : (xs ls : List ℕ) (b : Block) (js : Waiting) (done ys ms : List ℕ) → AllLight ms →
-      count (writes c xs ls b js done ys ms) + 2 * length ms ≤ K * length ms
+      count (writes c xs ls b js done ys ms) + 3 * length ms ≤ K * length ms
   writes-count xs ls b js done (y ∷ ys) (m ∷ ms) h =
       let pt : ℕ → Point = λ j. AtAll (length xs) (counts c done ++ (j ∷ zeros ms)) xs ls b js in
       let a = count-append (all_words c y pt (group_map c xs ls b js xs) (captured_in p m)) (writes c xs ls b js (done ++ m ∷ []) ys ms) in
@@ -206,19 +227,19 @@ module _ (p : AnfTree) (all : List Noted) (home : ℕ → ℕ) (size : ℕ) (K :
       let f : K * (1 + length ms) ≡ K * suc (length ms) = ap (λ n. K * n) one in
       omega (arith, few, e, f, nothing ms more)
     where
-      nothing : (ns : List ℕ) → count (writes c xs ls b js done [] ns) + 2 * length ns ≤ K * length ns → 2 * length ns ≤ K * length ns
+      nothing : (ns : List ℕ) → count (writes c xs ls b js done [] ns) + 3 * length ns ≤ K * length ns → 3 * length ns ≤ K * length ns
       nothing ns g = omega (arith, g)
 
-  group-count : (xs ls : List ℕ) (b : Block) (js : Waiting) → AllLight ls → count (group c xs ls b js) ≤ K * length ls
+  pub group-count : (xs ls : List ℕ) (b : Block) (js : Waiting) → AllLight ls → count (group c xs ls b js) + length ls ≤ K * length ls
   group-count xs ls b js h =
       let a = count-append (makes c xs ls b js [] xs ls) (writes c xs ls b js [] xs ls) in
       let m = makes-count c xs ls b js [] xs ls in
       let w = writes-count xs ls b js [] xs ls h in
       omega (arith, a, m, w)
 
-  bound-count : (op : Op) (x : ℕ) (k : Block) (js : Waiting) (l : ℕ) → is_branch op ≡ false →
-      weight (captured_in p) op ≤ K * Widths.operations_in op + 4 * length (celled op) →
-      count (code_bound c op x k js l) ≤ K * Widths.operations_in op + 4 * length (celled op)
+  pub bound-count : (op : Op) (x : ℕ) (k : Block) (js : Waiting) (l : ℕ) → is_branch op ≡ false →
+      weight (captured_in p) op + length (closed_by op) ≤ K * Widths.operations_in op + 4 * length (celled op) →
+      count (code_bound c op x k js l) + length (closed_by op) ≤ K * Widths.operations_in op + 4 * length (celled op)
   bound-count op x k js l f h =
       let s : count (code_bound c op x k js l) ≡ count (evaluated c op (AtBlock (Bind x op k) js) (Then x k l js) l (block_map c (Bind x op k) js) ++ keep c x (Then x k l js)) =
       ap count (bound-plain p all home size op x k js l f) in
@@ -226,9 +247,9 @@ module _ (p : AnfTree) (all : List Noted) (home : ℕ → ℕ) (size : ℕ) (K :
       let a = count-append (evaluated c op (AtBlock (Bind x op k) js) (Then x k l js) l (block_map c (Bind x op k) js)) (keep c x (Then x k l js)) in
       omega (arith, s, e, a, h)
 
-  tail-count : (op : Op) (js : Waiting) (l : ℕ) → is_branch op ≡ false →
-      weight (captured_in p) op ≤ K * Widths.operations_in op + 4 * length (celled op) →
-      count (code_last c op js l) ≤ K * Widths.operations_in op + 4 * length (celled op)
+  pub tail-count : (op : Op) (js : Waiting) (l : ℕ) → is_branch op ≡ false →
+      weight (captured_in p) op + length (closed_by op) ≤ K * Widths.operations_in op + 4 * length (celled op) →
+      count (code_last c op js l) + length (closed_by op) ≤ K * Widths.operations_in op + 4 * length (celled op)
   tail-count op js l f h =
       let s : count (code_last c op js l) ≡ count (last c op js l) = ap count (last-plain p all home size op js l f) in
       let e = last-count c op js l in
@@ -242,24 +263,26 @@ module _ (p : AnfTree) (all : List Noted) (home : ℕ → ℕ) (size : ℕ) (K :
     unfolding code_block code_bound code_last
 
     pub block-count : (b : Block) (js : Waiting) (l : ℕ) → BlockLight b →
-        count (code_block c b js l) ≤ K * Widths.operations b + 4 * length (made (blocks b))
+        count (code_block c b js l) + length (stood (blocks b)) ≤ K * Widths.operations b + 4 * length (made (blocks b))
     block-count (Bind x op k) js l h =
         let a = count-append (code_bound c op x k js l) (code_block c k js (l + labels_of op)) in
         let f = arms-count op x k js l h.0 in
         let g = block-count k js (l + labels_of op) h.1 in
         let e = mul-add K (Widths.operations_in op) (Widths.operations k) in
         let d = made-bind x op k in
-        omega (arith, a, f, g, e, d)
+        let s = stood-bind x op k in
+        omega (arith, a, f, g, e, d, s)
     block-count (CloseAll xs ls k) js l h =
         let a = count-append (group c xs ls k js) (code_block c k js l) in
         let f = group-count xs ls k js h.0 in
         let g = block-count k js l h.1 in
         let e = mul-add K (length ls) (Widths.operations k) in
-        omega (arith, a, f, g, e)
+        let s = length-append ls (stood (blocks k)) in
+        omega (arith, a, f, g, e, s)
     block-count (Tail op) js l h = ends-light op js l h
 
     arms-count : (op : Op) (x : ℕ) (k : Block) (js : Waiting) (l : ℕ) → ArmsLight op →
-        count (code_bound c op x k js l) ≤ K * Widths.operations_in op + 4 * (length (celled op) + length (made (blocks_in op)))
+        count (code_bound c op x k js l) + (length (closed_by op) + length (stood (blocks_in op))) ≤ K * Widths.operations_in op + 4 * (length (celled op) + length (made (blocks_in op)))
     arms-count (Branch a b d) x k js l h =
         let arm = Then x k l js in
         let first = code_block c b arm (l + 2) in
@@ -272,12 +295,13 @@ module _ (p : AnfTree) (all : List Noted) (home : ℕ → ℕ) (size : ℕ) (K :
         let g = block-count d arm (l + 2 + labels_in b) h.1.1 in
         let e = arms-sum (Widths.operations b) (Widths.operations d) h.0 in
         let m = made-both (blocks b) (blocks d) in
+        let s = stood-both (blocks b) (blocks d) in
         let k3 = h.0 in
-        omega (arith, a1, a2, f, g, e, m, k3)
+        omega (arith, a1, a2, f, g, e, m, s, k3)
     arms-count op x k js l h = let e = bound-count op x k js l refl h in omega (arith, e)
 
     ends-light : (op : Op) (js : Waiting) (l : ℕ) → ArmsLight op →
-        count (code_last c op js l) ≤ K * Widths.operations_in op + 4 * length (made (blocks (Tail op)))
+        count (code_last c op js l) + length (stood (blocks (Tail op))) ≤ K * Widths.operations_in op + 4 * length (made (blocks (Tail op)))
     ends-light (Branch a b d) js l h =
         let first = code_block c b js (l + 2) in
         let second = code_block c d js (l + 2 + labels_in b) in
@@ -290,6 +314,7 @@ module _ (p : AnfTree) (all : List Noted) (home : ℕ → ℕ) (size : ℕ) (K :
         let g = block-count d js (l + 2 + labels_in b) h.1.1 in
         let e = arms-sum (Widths.operations b) (Widths.operations d) h.0 in
         let m = made-both (blocks b) (blocks d) in
+        let s = stood-both (blocks b) (blocks d) in
         let k3 = h.0 in
-        omega (arith, a1, a2, a3, z, f, g, e, m, k3)
-    ends-light op js l h = let e = tail-count op js l refl h in let m = length-append (celled op) [] in omega (arith, e, m)
+        omega (arith, a1, a2, a3, z, f, g, e, m, s, k3)
+    ends-light op js l h = let e = tail-count op js l refl h in let m = length-append (celled op) [] in let s = stood-tail op in omega (arith, e, m, s)

@@ -1,5 +1,5 @@
 -- What the operations of a body weigh, by the variables that the body has.
-use Rattle.std.proofs.Common.{◌≡◌, true≢false, ℕ, ◌≤◌, ◌<◌, ◌+◌, ◌*◌, Bool, true, false, List, [], ◌∷◌, ◌++◌, length, length-append, Some, refl, sym, ap, ◌∙◌, subst, inl, inr, ⊎_elim, arith}
+use Rattle.std.proofs.Common.{◌≡◌, true≢false, ℕ, ◌≤◌, ◌<◌, ◌+◌, ◌*◌, Bool, true, false, max, List, [], ◌∷◌, ◌++◌, length, length-append, Some, refl, sym, ap, ◌∙◌, subst, inl, inr, ⊎_elim, arith}
 use Rattle.std.proofs.Math.Nat.{mul-add}
 use Rattle.std.proofs.lemmas.Bool.{cases_eq}
 use Rattle.tb_semantics.specs.Graph.{IsApart, IsIn}
@@ -8,7 +8,7 @@ use Rattle.tb_core.specs.FreeVariables.{is_in, of_lambdas, without}
 use Rattle.tb_core.proofs.Members.{in-tested, in-without, no-longer}
 use Rattle.tb_ir.specs.AnfTree.{Operand, Quote, Var, Block, Bind, CloseAll, Tail, Op, Atom, Global, SetGlobal, DefGlobal, PrimUse, NewCell, CellGet, CellSet, Close, Call, Direct, Apply, Branch, ProcTree, AnfTree}
 use Rattle.tb_ir.specs.AnfMachine.{captured_by, free_op, free_of_atom, free_of_atoms, proc_of}
-use Rattle.tb_ir.specs.AnfRules.{KeepsRules, MakesCell, binders, blocks, blocks_in, celled, named, of_each, operation, plain_binders, times_named}
+use Rattle.tb_ir.specs.AnfRules.{KeepsRules, MakesCell, binders, blocks, blocks_in, celled, closed_by, named, of_each, operation, plain_binders, times_named}
 use Rattle.tb_ir.specs.AnfWidth.{quotes}
 use Rattle.tb_ir.specs.AnfWidth as Widths
 use Rattle.tb_ir.specs.Rules.{times}
@@ -29,13 +29,13 @@ use Rattle.tb_codegen.proofs.Programs.{block-keeps, body-ok, keeps, named-in}
 -- the weight of an operation in a body with these variables is at most this
 abbrev pub heavy : List ℕ → ℕ
 heavy [] = 6
-heavy (y ∷ ys) = 17 + 2 * length ys
+heavy (y ∷ ys) = max 17 (6 + 2 * length ys)
 
 heavy-some : (ys : List ℕ) → 6 ≤ heavy ys
 heavy-some [] = omega arith
 heavy-some (y ∷ ys) = omega arith
 
-heavy-closes : (ys : List ℕ) → 3 + 2 * length ys ≤ heavy ys
+pub heavy-closes : (ys : List ℕ) → 4 + 2 * length ys ≤ heavy ys
 heavy-closes [] = omega arith
 heavy-closes (y ∷ ys) = omega arith
 
@@ -70,7 +70,7 @@ all-celled z (op ∷ ops) =
     omega (arith, h, g, a, b)
 
 module _ (p : AnfTree) (rules : KeepsRules p) (fits : Fits p) (q : ProcTree) (at : IsIn q p.procs) where
-  abbrev B : List Block
+  abbrev pub B : List Block
   B = blocks q.body
 
   -- the variables of the body
@@ -80,75 +80,75 @@ module _ (p : AnfTree) (rules : KeepsRules p) (fits : Fits p) (q : ProcTree) (at
   abbrev pub K : ℕ
   K = heavy S
 
-  abbrev home : ℕ → ℕ
+  abbrev pub home : ℕ → ℕ
   home = slot_of q
 
-  abbrev size : ℕ
+  abbrev pub size : ℕ
   size = frame_size q
 
-  abbrev all : List Noted
+  abbrev pub all : List Noted
   all = noted_items p
 
-  abbrev own : List ℕ
+  abbrev pub own : List ℕ
   own = q.params ++ of_each plain_binders B
 
-  abbrev Known : List ℕ → Type 0
-  Known xs = (y : ℕ) → IsIn y xs → IsIn y S
+  abbrev pub Known : List ℕ → List ℕ → Type 0
+  Known T xs = (y : ℕ) → IsIn y xs → IsIn y T
 
-  abbrev Inside : List Block → Type 0
+  abbrev pub Inside : List Block → Type 0
   Inside bs = (e : Block) → IsIn e bs → IsIn e B
 
-  bound : (e : Block) → IsIn e B → Known (binders e)
+  pub bound : (e : Block) → IsIn e B → Known S (binders e)
   bound e i y j = in-right (q.params ++ q.captured) _ y (in-each binders B e y i j)
 
-  makes : (e : Block) (op : Op) → IsIn e B → IsIn op (operation e) → MakesCell p own op
+  pub makes : (e : Block) (op : Op) → IsIn e B → IsIn op (operation e) → MakesCell p own op
   makes e op i j = every-at (MakesCell p own) (of_each operation B) op (keeps p rules fits q at).makes_cells (in-each operation B e op i j)
 
   -- what a lambda captures that is made here
-  captured-within : (m : ℕ) (r : ProcTree) → proc_of p.procs m ≡ Some r → Known (captured_in p m) → length (captured_in p m) ≤ length S
-  captured-within m r e s =
+  captured-within : (T : List ℕ) (m : ℕ) (r : ProcTree) → proc_of p.procs m ≡ Some r → Known T (captured_in p m) → length (captured_in p m) ≤ length T
+  captured-within T m r e s =
       let i = (proc-found p p.procs m r e).0 in
       let k = keeps p rules fits r i in
-      no-longer (captured_in p m) S
+      no-longer (captured_in p m) T
       (subst (λ o. IsApart (captured_by o)) (sym e) (apart-left r.captured _ (apart-right r.params _ k.apart))) s
 
-  closes-light : (m : ℕ) (r : ProcTree) → proc_of p.procs m ≡ Some r → Known (captured_in p m) → 3 + 2 * length (captured_in p m) ≤ K
-  closes-light m r e s = let h = captured-within m r e s in let g = heavy-closes S in omega (arith, h, g)
+  closes-light : (T : List ℕ) (m : ℕ) (r : ProcTree) → proc_of p.procs m ≡ Some r → Known T (captured_in p m) → 4 + 2 * length (captured_in p m) ≤ 4 + 2 * length T
+  closes-light T m r e s = let h = captured-within T m r e s in omega (arith, h)
 
-  cell-light : (a : Operand) → MakesCell p own (NewCell a) → weight (captured_in p) (NewCell a) ≤ K * 0 + 4 * length (celled (NewCell a))
-  cell-light (Quote c) h = absurd h
-  cell-light (Var x) h = omega arith
+  cell-light : (n : ℕ) (a : Operand) → MakesCell p own (NewCell a) → weight (captured_in p) (NewCell a) + 0 ≤ n * 0 + 4 * length (celled (NewCell a))
+  cell-light n (Quote c) h = absurd h
+  cell-light n (Var x) h = omega arith
 
-  light : (op : Op) → is_branch op ≡ false → OpOk p all home size op → Known (free_op (captured_in p) op) → MakesCell p own op →
-      weight (captured_in p) op ≤ K * Widths.operations_in op + 4 * length (celled op)
-  light (Branch a b d) f h s c = absurd (true≢false f)
-  light (Atom a) f h s c = let g = heavy-some S in omega (arith, g)
-  light (Global g2 r) f h s c = let g = heavy-some S in omega (arith, g)
-  light (SetGlobal g2 a r) f h s c = let g = heavy-some S in omega (arith, g)
-  light (DefGlobal g2 a) f h s c = let g = heavy-some S in omega (arith, g)
-  light (PrimUse r ds t) f h s c = let g = heavy-some S in let few = h.0 in omega (arith, g, few)
-  light (NewCell a) f h s c = cell-light a c
-  light (CellGet a r) f h s c = let g = heavy-some S in omega (arith, g)
-  light (CellSet a b) f h s c = let g = heavy-some S in omega (arith, g)
-  light (Close m) f h s c = let g = closes-light m h.0 h.1.entered.there s in omega (arith, g)
-  light (Call g2 ds r) f h s c = let few = h.0 in let g = heavy-operands S (g2 ∷ ds) s (omega (arith, few)) in omega (arith, g)
-  light (Direct m ds) f h s c = let few = h.0 in let g = heavy-operands S ds s (omega (arith, few)) in omega (arith, g)
-  light (Apply g2 a r) f h s c = let g = heavy-some S in omega (arith, g)
+  pub light : (T : List ℕ) (op : Op) → is_branch op ≡ false → OpOk p all home size op → Known T (free_op (captured_in p) op) → MakesCell p own op →
+      weight (captured_in p) op + length (closed_by op) ≤ heavy T * Widths.operations_in op + 4 * length (celled op)
+  light T (Branch a b d) f h s c = absurd (true≢false f)
+  light T (Atom a) f h s c = let g = heavy-some T in omega (arith, g)
+  light T (Global g2 r) f h s c = let g = heavy-some T in omega (arith, g)
+  light T (SetGlobal g2 a r) f h s c = let g = heavy-some T in omega (arith, g)
+  light T (DefGlobal g2 a) f h s c = let g = heavy-some T in omega (arith, g)
+  light T (PrimUse r ds t) f h s c = let g = heavy-some T in let few = h.0 in omega (arith, g, few)
+  light T (NewCell a) f h s c = cell-light (heavy T) a c
+  light T (CellGet a r) f h s c = let g = heavy-some T in omega (arith, g)
+  light T (CellSet a b) f h s c = let g = heavy-some T in omega (arith, g)
+  light T (Close m) f h s c = let g = closes-light T m h.0 h.1.entered.there s in let k = heavy-closes T in omega (arith, g, k)
+  light T (Call g2 ds r) f h s c = let few = h.0 in let g = heavy-operands T (g2 ∷ ds) s (omega (arith, few)) in omega (arith, g)
+  light T (Direct m ds) f h s c = let few = h.0 in let g = heavy-operands T ds s (omega (arith, few)) in omega (arith, g)
+  light T (Apply g2 a r) f h s c = let g = heavy-some T in omega (arith, g)
 
-  all-light : (ls : List ℕ) → AllEntered p all home size ls → Known (of_lambdas (captured_in p) ls) → AllLight p all home size K ls
-  all-light [] h s = tt
-  all-light (m ∷ ms) h s = (
-    closes-light m h.0.0 h.0.1.entered.there (λ y i. s y (in-left (captured_in p m) _ y i)),
-    all-light ms h.1 (λ y i. s y (in-right (captured_in p m) _ y i)),
+  pub all-light : (n : ℕ) → 4 + 2 * length S ≤ n → (ls : List ℕ) → AllEntered p all home size ls → Known S (of_lambdas (captured_in p) ls) → AllLight p all home size n ls
+  all-light n le [] h s = tt
+  all-light n le (m ∷ ms) h s = (
+    (let g = closes-light S m h.0.0 h.0.1.entered.there (λ y i. s y (in-left (captured_in p m) _ y i)) in omega (arith, g, le)),
+    all-light n le ms h.1 (λ y i. s y (in-right (captured_in p m) _ y i)),
   )
 
-  behind-bind : (x : ℕ) (op : Op) (k : Block) → IsIn x S → Known (free p (Bind x op k)) → Known (free p k)
+  behind-bind : (x : ℕ) (op : Op) (k : Block) → IsIn x S → Known S (free p (Bind x op k)) → Known S (free p k)
   behind-bind x op k hx s y i =
       ⊎_elim (λ e. subst (λ z. IsIn z S) e hx)
       (λ ne. s y (in-right (free_op (captured_in p) op) _ y (kept-other x y (free p k) i ne)))
       (cases_eq x y)
 
-  in-group : (xs ys : List ℕ) → Known xs → Known (without xs ys) → Known ys
+  pub in-group : (xs ys : List ℕ) → Known S xs → Known S (without xs ys) → Known S ys
   in-group xs ys hx s y i = by (is_in xs y) refl
     where
       by : (b : Bool) → is_in xs y ≡ b → IsIn y S
@@ -156,7 +156,7 @@ module _ (p : AnfTree) (rules : KeepsRules p) (fits : Fits p) (q : ProcTree) (at
       by false e = s y (in-without xs ys y i e)
 
   mutual
-    light-of : (b : Block) (ws : List ℕ) → BlockOk p all home size b ws → Known (free p b) → Inside (blocks b) → BlockLight p all home size K b
+    light-of : (b : Block) (ws : List ℕ) → BlockOk p all home size b ws → Known S (free p b) → Inside (blocks b) → BlockLight p all home size K b
     light-of (Bind x op k) ws h s sub = (
       arms-of op _ h.1.0 (λ y i. s y (in-left (free_op (captured_in p) op) _ y i)) (makes (Bind x op k) op (sub _ (inl refl)) (inl refl))
           (λ e i. sub e (inr (in-left (blocks_in op) (blocks k) e i))),
@@ -164,13 +164,13 @@ module _ (p : AnfTree) (rules : KeepsRules p) (fits : Fits p) (q : ProcTree) (at
     )
     light-of (CloseAll xs ls k) ws h s sub =
         let inside = in-group xs (of_lambdas (captured_in p) ls ++ free p k) (bound (CloseAll xs ls k) (sub _ (inl refl))) s in (
-          all-light ls h.2 (λ y i. inside y (in-left (of_lambdas (captured_in p) ls) _ y i)),
+          all-light K (heavy-closes S) ls h.2 (λ y i. inside y (in-left (of_lambdas (captured_in p) ls) _ y i)),
           light-of k ws h.4 (λ y i. inside y (in-right (of_lambdas (captured_in p) ls) _ y i)) (λ e i. sub e (inr i)),
         )
     light-of (Tail op) ws h s sub =
         arms-of op ws h s (makes (Tail op) op (sub _ (inl refl)) (inl refl)) (λ e i. sub e (inr i))
 
-    arms-of : (op : Op) (ws : List ℕ) → ArmsOk p all home size op ws → Known (free_op (captured_in p) op) → MakesCell p own op → Inside (blocks_in op) →
+    arms-of : (op : Op) (ws : List ℕ) → ArmsOk p all home size op ws → Known S (free_op (captured_in p) op) → MakesCell p own op → Inside (blocks_in op) →
         ArmsLight p all home size K op
     arms-of (Branch a b d) ws h s c sub = (
       (let g = heavy-some S in omega (arith, g)),
@@ -179,23 +179,23 @@ module _ (p : AnfTree) (rules : KeepsRules p) (fits : Fits p) (q : ProcTree) (at
         light-of d ws h.1.1 (λ y i. s y (in-right (free_of_atom a) _ y (in-right (free p b) _ y i))) (λ e i. sub e (in-right (blocks b) (blocks d) e i)),
       ),
     )
-    arms-of (Atom a) ws h s c sub = light (Atom a) refl h s c
-    arms-of (Global g r) ws h s c sub = light (Global g r) refl h s c
-    arms-of (SetGlobal g a r) ws h s c sub = light (SetGlobal g a r) refl h s c
-    arms-of (DefGlobal g a) ws h s c sub = light (DefGlobal g a) refl h s c
-    arms-of (PrimUse r ds t) ws h s c sub = light (PrimUse r ds t) refl h s c
-    arms-of (NewCell a) ws h s c sub = light (NewCell a) refl h s c
-    arms-of (CellGet a r) ws h s c sub = light (CellGet a r) refl h s c
-    arms-of (CellSet a b) ws h s c sub = light (CellSet a b) refl h s c
-    arms-of (Close m) ws h s c sub = light (Close m) refl h s c
-    arms-of (Call g ds r) ws h s c sub = light (Call g ds r) refl h s c
-    arms-of (Direct m ds) ws h s c sub = light (Direct m ds) refl h s c
-    arms-of (Apply g a r) ws h s c sub = light (Apply g a r) refl h s c
+    arms-of (Atom a) ws h s c sub = light S (Atom a) refl h s c
+    arms-of (Global g r) ws h s c sub = light S (Global g r) refl h s c
+    arms-of (SetGlobal g a r) ws h s c sub = light S (SetGlobal g a r) refl h s c
+    arms-of (DefGlobal g a) ws h s c sub = light S (DefGlobal g a) refl h s c
+    arms-of (PrimUse r ds t) ws h s c sub = light S (PrimUse r ds t) refl h s c
+    arms-of (NewCell a) ws h s c sub = light S (NewCell a) refl h s c
+    arms-of (CellGet a r) ws h s c sub = light S (CellGet a r) refl h s c
+    arms-of (CellSet a b) ws h s c sub = light S (CellSet a b) refl h s c
+    arms-of (Close m) ws h s c sub = light S (Close m) refl h s c
+    arms-of (Call g ds r) ws h s c sub = light S (Call g ds r) refl h s c
+    arms-of (Direct m ds) ws h s c sub = light S (Direct m ds) refl h s c
+    arms-of (Apply g a r) ws h s c sub = light S (Apply g a r) refl h s c
 
   pub body-light : BlockLight p all home size K q.body
   body-light = light-of q.body [] (body-ok p rules fits q at) free-known (λ e i. i)
     where
-      free-known : Known (free p q.body)
+      free-known : Known S (free p q.body)
       free-known y i =
           in-left (q.params ++ q.captured) _ y
           (⊎_elim (λ j. in-right q.params q.captured y j) (λ j. in-left q.params q.captured y j) (named-in p rules fits q at y i))
@@ -205,7 +205,7 @@ module _ (p : AnfTree) (rules : KeepsRules p) (fits : Fits p) (q : ProcTree) (at
       length (plain_binders (Bind x op k)) + length (of_each plain_binders (blocks_in op)) ≤ Widths.operations_in op
   plain-arms x op k ws h = plain-in p all home size x op k ws h
 
-  plain-fewer : (b : Block) (ws : List ℕ) → BlockOk p all home size b ws → Inside (blocks b) → length (of_each plain_binders (blocks b)) < Widths.operations b
+  pub plain-fewer : (b : Block) (ws : List ℕ) → BlockOk p all home size b ws → Inside (blocks b) → length (of_each plain_binders (blocks b)) < Widths.operations b
   plain-fewer (Bind x op k) ws h sub =
       let here = plain-arms x op k _ h.1.0 in
       let more = plain-fewer k ws h.1.1 (λ e i. sub e (inr (in-right (blocks_in op) (blocks k) e i))) in
