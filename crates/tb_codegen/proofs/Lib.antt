@@ -59,6 +59,8 @@ pub mod Ahead
 pub mod Nearing
 pub mod Counts
 pub mod Weights
+pub mod Lengths
+pub mod Short
 pub mod Walks
 pub mod Quick
 pub mod Marks
