@@ -57,6 +57,10 @@ pub mod Windows
 pub mod Jumps
 pub mod Ahead
 pub mod Nearing
+pub mod Counts
+pub mod Weights
+pub mod Lengths
+pub mod Short
 pub mod Walks
 pub mod Quick
 pub mod Marks

@@ -6,7 +6,7 @@ ghost use Rattle.tb_semantics.specs.Keeps.{Keeps};
 ghost use Rattle.tb_semantics.specs.Runs.{after};
 ghost use Rattle.tb_ir.specs.AnfTree.{AnfTree};
 ghost use Rattle.tb_ir.specs.AnfRules.{KeepsRules};
-ghost use Rattle.tb_ir.specs.AnfWidth.{width_of};
+ghost use Rattle.tb_ir.specs.AnfWidth.{square_sum, width_of};
 ghost use Rattle.tb_ir.specs.Measures.{anf_measured};
 ghost use Rattle.tb_mac.specs.Assemble.{ItemsOk, instructions};
 ghost use Rattle.tb_mac.specs.Bounds.{frame_bound, space_bound, window_bound};
@@ -43,6 +43,11 @@ pub fn code_is_walkable()
 pub fn items_can_be_assembled()
     ensures conditions { (p : AnfTree) → KeepsRules p → Fits p → length (instructions (map item_of (noted_items p))) < 2 ^ 24 →
         ItemsOk (parts_of p) (map item_of (noted_items p)) }
+{}
+
+/// Code has at most eight times as many instructions as the squares of its program's widths come to, and eight more.
+pub fn code_is_short()
+    ensures short { (p : AnfTree) → KeepsRules p → Fits p → length (code_of p).code ≤ 8 * square_sum p + 8 }
 {}
 
 /// In every memory and with every input, code that still runs has taken less steps than its events so far and one more,
