@@ -76,8 +76,8 @@ wrote (Apply f a p) = 1
 wrote op = 0
 
 -- the instructions of an operation, and of what its value goes to
-abbrev pub weight : (ℕ → List ℕ) → Op → ℕ
-weight captured op = length (operands op) + (wrote op + (written captured op + 3))
+abbrev pub op_count : (ℕ → List ℕ) → Op → ℕ
+op_count captured op = length (operands op) + (wrote op + (written captured op + 3))
 
 called-wrote : (op : Op) → is_call op ≡ true → 1 ≤ wrote op
 called-wrote (Call f ds p) e = omega arith
@@ -109,26 +109,26 @@ loads-few c op pt es js n h =
     omega (arith, a, l, h)
 
 evaluated-count : (c : Body) (op : Op) (pt : Point) (js : Waiting) (l : ℕ) (es : List Entry) →
-    count (evaluated c op pt js l es) + 2 ≤ weight c.captured op
+    count (evaluated c op pt js l es) + 2 ≤ op_count c.captured op
 evaluated-count c op pt js l es = by (is_call op) refl
   where
-    by : (b : Bool) → is_call op ≡ b → count (cond b (returning c op pt js l es) (simple c op pt js es)) + 2 ≤ weight c.captured op
-    by true e = loads-few c op pt es _ (weight c.captured op) (let w = called-wrote op e in omega (arith, w))
-    by false e = loads-few c op pt es _ (weight c.captured op) (let g = behind-count c js op in omega (arith, g))
+    by : (b : Bool) → is_call op ≡ b → count (cond b (returning c op pt js l es) (simple c op pt js es)) + 2 ≤ op_count c.captured op
+    by true e = loads-few c op pt es _ (op_count c.captured op) (let w = called-wrote op e in omega (arith, w))
+    by false e = loads-few c op pt es _ (op_count c.captured op) (let g = behind-count c js op in omega (arith, g))
 
 given-count : (c : Body) (js : Waiting) → count (given c js) ≤ 2
 given-count c ToCaller = omega arith
 given-count c (ToTop k) = omega arith
 given-count c (Then x b l js) = omega arith
 
-leaving-count : (c : Body) (op : Op) (pt : Point) (es : List Entry) → is_call op ≡ true → count (leaving c op pt es) + 2 ≤ weight c.captured op
-leaving-count c op pt es e = loads-few c op pt es _ (weight c.captured op) (let w = called-wrote op e in omega (arith, w))
+leaving-count : (c : Body) (op : Op) (pt : Point) (es : List Entry) → is_call op ≡ true → count (leaving c op pt es) + 2 ≤ op_count c.captured op
+leaving-count c op pt es e = loads-few c op pt es _ (op_count c.captured op) (let w = called-wrote op e in omega (arith, w))
 
-last-count : (c : Body) (op : Op) (js : Waiting) (l : ℕ) → count (last c op js l) ≤ weight c.captured op
+last-count : (c : Body) (op : Op) (js : Waiting) (l : ℕ) → count (last c op js l) ≤ op_count c.captured op
 last-count c op ToCaller l = by (is_call op) refl
   where
     by : (b : Bool) → is_call op ≡ b → count (cond b (leaving c op (AtBlock (Tail op) ToCaller) (block_map c (Tail op) ToCaller))
-        (evaluated c op (AtBlock (Tail op) ToCaller) ToCaller l (block_map c (Tail op) ToCaller) ++ given c ToCaller)) ≤ weight c.captured op
+        (evaluated c op (AtBlock (Tail op) ToCaller) ToCaller l (block_map c (Tail op) ToCaller) ++ given c ToCaller)) ≤ op_count c.captured op
     by true e = let h = leaving-count c op (AtBlock (Tail op) ToCaller) (block_map c (Tail op) ToCaller) e in omega (arith, h)
     by false f =
         let e = evaluated-count c op (AtBlock (Tail op) ToCaller) ToCaller l (block_map c (Tail op) ToCaller) in
@@ -190,22 +190,22 @@ module _ (p : AnfTree) (all : List Noted) (home : ℕ → ℕ) (size : ℕ) (K :
   abbrev c : Body
   c = body p all home size
 
-  -- operations of at most this weight
-  abbrev pub AllLight : List ℕ → Type 0
-  AllLight [] = Unit {0}
-  AllLight (m ∷ ms) = (4 + 2 * length (captured_in p m) ≤ K) × AllLight ms
+  -- operations that become so many instructions at most
+  abbrev pub AllFew : List ℕ → Type 0
+  AllFew [] = Unit {0}
+  AllFew (m ∷ ms) = (4 + 2 * length (captured_in p m) ≤ K) × AllFew ms
 
   abbrev mutual
-    pub BlockLight : Block → Type 0
-    BlockLight (Bind x op k) = ArmsLight op × BlockLight k
-    BlockLight (CloseAll xs ls k) = AllLight ls × BlockLight k
-    BlockLight (Tail op) = ArmsLight op
+    pub BlockFew : Block → Type 0
+    BlockFew (Bind x op k) = ArmsFew op × BlockFew k
+    BlockFew (CloseAll xs ls k) = AllFew ls × BlockFew k
+    BlockFew (Tail op) = ArmsFew op
 
-    pub ArmsLight : Op → Type 0
-    ArmsLight (Branch a b d) = (3 ≤ K) × (BlockLight b × BlockLight d)
-    ArmsLight op = weight (captured_in p) op + length (closed_by op) ≤ K * Widths.operations_in op + 4 * length (celled op)
+    pub ArmsFew : Op → Type 0
+    ArmsFew (Branch a b d) = (3 ≤ K) × (BlockFew b × BlockFew d)
+    ArmsFew op = op_count (captured_in p) op + length (closed_by op) ≤ K * Widths.operations_in op + 4 * length (celled op)
 
-  writes-count : (xs ls : List ℕ) (b : Block) (js : Waiting) (done ys ms : List ℕ) → AllLight ms →
+  writes-count : (xs ls : List ℕ) (b : Block) (js : Waiting) (done ys ms : List ℕ) → AllFew ms →
       count (writes c xs ls b js done ys ms) + 3 * length ms ≤ K * length ms
   writes-count xs ls b js done (y ∷ ys) (m ∷ ms) h =
       let pt : ℕ → Point = λ j. AtAll (length xs) (counts c done ++ (j ∷ zeros ms)) xs ls b js in
@@ -230,7 +230,7 @@ module _ (p : AnfTree) (all : List Noted) (home : ℕ → ℕ) (size : ℕ) (K :
       nothing : (ns : List ℕ) → count (writes c xs ls b js done [] ns) + 3 * length ns ≤ K * length ns → 3 * length ns ≤ K * length ns
       nothing ns g = omega (arith, g)
 
-  pub group-count : (xs ls : List ℕ) (b : Block) (js : Waiting) → AllLight ls → count (group c xs ls b js) + length ls ≤ K * length ls
+  pub group-count : (xs ls : List ℕ) (b : Block) (js : Waiting) → AllFew ls → count (group c xs ls b js) + length ls ≤ K * length ls
   group-count xs ls b js h =
       let a = count-append (makes c xs ls b js [] xs ls) (writes c xs ls b js [] xs ls) in
       let m = makes-count c xs ls b js [] xs ls in
@@ -238,7 +238,7 @@ module _ (p : AnfTree) (all : List Noted) (home : ℕ → ℕ) (size : ℕ) (K :
       omega (arith, a, m, w)
 
   pub bound-count : (op : Op) (x : ℕ) (k : Block) (js : Waiting) (l : ℕ) → is_branch op ≡ false →
-      weight (captured_in p) op + length (closed_by op) ≤ K * Widths.operations_in op + 4 * length (celled op) →
+      op_count (captured_in p) op + length (closed_by op) ≤ K * Widths.operations_in op + 4 * length (celled op) →
       count (code_bound c op x k js l) + length (closed_by op) ≤ K * Widths.operations_in op + 4 * length (celled op)
   bound-count op x k js l f h =
       let s : count (code_bound c op x k js l) ≡ count (evaluated c op (AtBlock (Bind x op k) js) (Then x k l js) l (block_map c (Bind x op k) js) ++ keep c x (Then x k l js)) =
@@ -248,7 +248,7 @@ module _ (p : AnfTree) (all : List Noted) (home : ℕ → ℕ) (size : ℕ) (K :
       omega (arith, s, e, a, h)
 
   pub tail-count : (op : Op) (js : Waiting) (l : ℕ) → is_branch op ≡ false →
-      weight (captured_in p) op + length (closed_by op) ≤ K * Widths.operations_in op + 4 * length (celled op) →
+      op_count (captured_in p) op + length (closed_by op) ≤ K * Widths.operations_in op + 4 * length (celled op) →
       count (code_last c op js l) + length (closed_by op) ≤ K * Widths.operations_in op + 4 * length (celled op)
   tail-count op js l f h =
       let s : count (code_last c op js l) ≡ count (last c op js l) = ap count (last-plain p all home size op js l f) in
@@ -262,7 +262,7 @@ module _ (p : AnfTree) (all : List Noted) (home : ℕ → ℕ) (size : ℕ) (K :
   mutual
     unfolding code_block code_bound code_last
 
-    pub block-count : (b : Block) (js : Waiting) (l : ℕ) → BlockLight b →
+    pub block-count : (b : Block) (js : Waiting) (l : ℕ) → BlockFew b →
         count (code_block c b js l) + length (stood (blocks b)) ≤ K * Widths.operations b + 4 * length (made (blocks b))
     block-count (Bind x op k) js l h =
         let a = count-append (code_bound c op x k js l) (code_block c k js (l + labels_of op)) in
@@ -279,9 +279,9 @@ module _ (p : AnfTree) (all : List Noted) (home : ℕ → ℕ) (size : ℕ) (K :
         let e = mul-add K (length ls) (Widths.operations k) in
         let s = length-append ls (stood (blocks k)) in
         omega (arith, a, f, g, e, s)
-    block-count (Tail op) js l h = ends-light op js l h
+    block-count (Tail op) js l h = ends-few op js l h
 
-    arms-count : (op : Op) (x : ℕ) (k : Block) (js : Waiting) (l : ℕ) → ArmsLight op →
+    arms-count : (op : Op) (x : ℕ) (k : Block) (js : Waiting) (l : ℕ) → ArmsFew op →
         count (code_bound c op x k js l) + (length (closed_by op) + length (stood (blocks_in op))) ≤ K * Widths.operations_in op + 4 * (length (celled op) + length (made (blocks_in op)))
     arms-count (Branch a b d) x k js l h =
         let arm = Then x k l js in
@@ -300,9 +300,9 @@ module _ (p : AnfTree) (all : List Noted) (home : ℕ → ℕ) (size : ℕ) (K :
         omega (arith, a1, a2, f, g, e, m, s, k3)
     arms-count op x k js l h = let e = bound-count op x k js l refl h in omega (arith, e)
 
-    ends-light : (op : Op) (js : Waiting) (l : ℕ) → ArmsLight op →
+    ends-few : (op : Op) (js : Waiting) (l : ℕ) → ArmsFew op →
         count (code_last c op js l) + length (stood (blocks (Tail op))) ≤ K * Widths.operations_in op + 4 * length (made (blocks (Tail op)))
-    ends-light (Branch a b d) js l h =
+    ends-few (Branch a b d) js l h =
         let first = code_block c b js (l + 2) in
         let second = code_block c d js (l + 2 + labels_in b) in
         let others = Mark (suc l) (block_note c d js) ∷ (second ++ passed js l) in
@@ -317,4 +317,4 @@ module _ (p : AnfTree) (all : List Noted) (home : ℕ → ℕ) (size : ℕ) (K :
         let s = stood-both (blocks b) (blocks d) in
         let k3 = h.0 in
         omega (arith, a1, a2, a3, z, f, g, e, m, s, k3)
-    ends-light op js l h = let e = tail-count op js l refl h in let m = length-append (celled op) [] in let s = stood-tail op in omega (arith, e, m, s)
+    ends-few op js l h = let e = tail-count op js l refl h in let m = length-append (celled op) [] in let s = stood-tail op in omega (arith, e, m, s)

@@ -48,6 +48,23 @@ abbrev pub Arity : Op → Type 0
 Arity (PrimUse r ds q) = length ds ≡ arity_of r
 Arity op = Unit {0}
 
+-- what holds for what a block names, and for what it binds, holds for what the block behind it names
+pub behind-bind : (p : AnfTree) (P : ℕ → Type 0) (x : ℕ) (op : Op) (k : Block) → P x → ((y : ℕ) → IsIn y (free p (Bind x op k)) → P y) →
+    (y : ℕ) → IsIn y (free p k) → P y
+behind-bind p P x op k hx s y i =
+    ⊎_elim (λ e. subst P e hx)
+    (λ ne. s y (in-right (free_op (captured_in p) op) _ y (kept-other x y (free p k) i ne)))
+    (cases_eq x y)
+
+-- and so in a group and the block behind it
+pub in-group : (P : ℕ → Type 0) (xs ys : List ℕ) → ((y : ℕ) → IsIn y xs → P y) → ((y : ℕ) → IsIn y (without xs ys) → P y) →
+    (y : ℕ) → IsIn y ys → P y
+in-group P xs ys hx s y i = by (is_in xs y) refl
+  where
+    by : (b : Bool) → is_in xs y ≡ b → P y
+    by true e = hx y (in-tested xs y e)
+    by false e = s y (in-without xs ys y i e)
+
 module _ (p : AnfTree) (w : ℕ) (narrow : w ≤ 1000) (all : List Noted) (home : ℕ → ℕ) (size : ℕ) (narrow_frame : size ≤ w)
     (few : (m : ℕ) → length (captured_in p m) ≤ w) where
   abbrev Slots : List ℕ → Type 0
@@ -85,7 +102,7 @@ module _ (p : AnfTree) (w : ℕ) (narrow : w ≤ 1000) (all : List Noted) (home 
   lambdas-good (m ∷ ms) s =
       (record { few = few m; slots = λ x i. s x (in-left (captured_in p m) _ x i) }, lambdas-good ms (λ x i. s x (in-right (captured_in p m) _ x i)))
 
-  pub other-arms : (op : Op) (ws : List ℕ) → is_branch op ≡ false → ArmsOk p all home size op ws → OpOk p all home size op
+  other-arms : (op : Op) (ws : List ℕ) → is_branch op ≡ false → ArmsOk p all home size op ws → OpOk p all home size op
   other-arms (Branch a b d) ws e w2 = absurd (true≢false e)
   other-arms (Atom a) ws e w2 = w2
   other-arms (Global g q) ws e w2 = w2
@@ -109,31 +126,17 @@ module _ (p : AnfTree) (w : ℕ) (narrow : w ≤ 1000) (all : List Noted) (home 
   arities-left : (xs ys : List Block) → Arities (xs ++ ys) → Arities xs
   arities-left xs ys h op i = h op (subst (IsIn op) (sym (each-append operation xs ys)) (in-left (of_each operation xs) _ op i))
 
-  behind-bind : (x : ℕ) (op : Op) (k : Block) → home x < size → Slots (free p (Bind x op k)) → Slots (free p k)
-  behind-bind x op k hx s y i =
-      ⊎_elim (λ e. subst (λ z. home z < size) e hx)
-      (λ ne. s y (in-right (free_op (captured_in p) op) _ y (kept-other x y (free p k) i ne)))
-      (cases_eq x y)
-
-  -- what a group and the block behind it name
-  in-group : (xs ys : List ℕ) → Slots xs → Slots (without xs ys) → Slots ys
-  in-group xs ys hx s y i = by (is_in xs y) refl
-    where
-      by : (b : Bool) → is_in xs y ≡ b → home y < size
-      by true e = hx y (in-tested xs y e)
-      by false e = s y (in-without xs ys y i e)
-
   mutual
     pub block-of : (b : Block) (ws : List ℕ) → BlockOk p all home size b ws → Slots (free p b) → Arities (blocks b) → BlockGood p w narrow home size narrow_frame b
     block-of (Bind x op k) ws h s a =
         let arms = arities-right (Bind x op k ∷ []) (blocks_in op ++ blocks k) a in (
           h.0.small,
           arms-of op _ h.1.0 (λ y i. s y (in-left (free_op (captured_in p) op) _ y i)) (a op (inl refl)) (arities-left (blocks_in op) (blocks k) arms),
-          block-of k ws h.1.1 (behind-bind x op k h.0.small s) (arities-right (blocks_in op) (blocks k) arms),
+          block-of k ws h.1.1 (behind-bind p (λ y. home y < size) x op k h.0.small s) (arities-right (blocks_in op) (blocks k) arms),
         )
     block-of (CloseAll xs ls k) ws h s a =
         let hx = homes-small p all home size [] xs _ h.3 in
-        let inside = in-group xs (of_lambdas (captured_in p) ls ++ free p k) hx s in (
+        let inside = in-group (λ y. home y < size) xs (of_lambdas (captured_in p) ls ++ free p k) hx s in (
           hx,
           lambdas-good ls (λ y i. inside y (in-left (of_lambdas (captured_in p) ls) _ y i)),
           block-of k ws h.4 (λ y i. inside y (in-right (of_lambdas (captured_in p) ls) _ y i)) a,
@@ -190,7 +193,7 @@ module _ (p : AnfTree) (all : List Noted) (home : ℕ → ℕ) (size : ℕ) wher
     plain-in x (NewCell a) k ws h = omega arith
     plain-in x op k ws h = omega arith
 
-    pub plain-last : (op : Op) (ws : List ℕ) → ArmsOk p all home size op ws → length (of_each plain_binders (blocks_in op)) ≤ Widths.operations_in op
+    plain-last : (op : Op) (ws : List ℕ) → ArmsOk p all home size op ws → length (of_each plain_binders (blocks_in op)) ≤ Widths.operations_in op
     plain-last (Branch a b d) ws h =
         let l = plain-within b ws h.1.0 in let r = plain-within d ws h.1.1 in
         let e = ap length (each-append plain_binders (blocks b) (blocks d)) in

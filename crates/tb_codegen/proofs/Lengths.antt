@@ -17,10 +17,11 @@ use Rattle.tb_codegen.proofs.Ok.{free}
 use Rattle.tb_codegen.proofs.Assembling.{count}
 use Rattle.tb_codegen.proofs.BlockChains.{ArmsOk, BlockOk, without-nothing}
 use Rattle.tb_codegen.proofs.CodeChains.{is_branch, other-ok}
-use Rattle.tb_codegen.proofs.Counts.{BlockLight, block-count, bound-count, count-append, group-count, made, made-bind, stood, stood-bind, stood-tail, tail-count}
+use Rattle.tb_codegen.proofs.Counts.{BlockFew, block-count, bound-count, count-append, group-count, made, made-bind, stood, stood-bind, stood-tail, tail-count}
+use Rattle.tb_codegen.proofs.Fields.{in-group}
 use Rattle.tb_codegen.proofs.OperationChains.{body}
 use Rattle.tb_codegen.proofs.Programs.{body-ok, named-in}
-use Rattle.tb_codegen.proofs.Weights.{B, Inside, S, all, all-light, body-light, bound, heavy, home, in-group, light, made-few, makes, plain-few, plain-fewer, size, variables-few}
+use Rattle.tb_codegen.proofs.OperationCounts.{B, Inside, S, all, all-few, body-few, bound, op_bound, home, op-few, made-few, makes, plain-few, plain-fewer, size, variables-few}
 
 module _ (p : AnfTree) (rules : KeepsRules p) (fits : Fits p) (q : ProcTree) (at : IsIn q p.procs) where
   abbrev A : List Noted
@@ -44,16 +45,16 @@ module _ (p : AnfTree) (rules : KeepsRules p) (fits : Fits p) (q : ProcTree) (at
   -- the first operation of a body of two that names no variable
   bound-first : (op : Op) (x : ℕ) (k : Block) (ws us : List ℕ) (js : Waiting) (l : ℕ) → is_branch op ≡ false → ArmsOk p A h0 z0 op us → BlockOk p A h0 z0 k ws →
       ((y : ℕ) → IsIn y (free_op (captured_in p) op) → ⊥) → Inside p rules fits q at (blocks (Bind x op k)) → 1 ≤ Widths.operations_in op → Widths.operations_in op + Widths.operations k ≡ 2 →
-      BlockLight p A h0 z0 (heavy V) k → heavy V ≤ 17 → blocks_in op ≡ [] →
+      BlockFew p A h0 z0 (op_bound V) k → op_bound V ≤ 17 → blocks_in op ≡ [] →
       count (code_bound c op x k js l ++ code_block c k js (l + labels_of op)) + length (stood (blocks (Bind x op k))) ≤ 25 + 4 * length (made (blocks (Bind x op k)))
   bound-first op x k ws us js l f a h none sub some two bl few alone =
       let o = other-ok p A h0 z0 op us f a in
-      let g = light p rules fits q at [] op f o (λ y i. absurd (none y i)) (makes p rules fits q at (Bind x op k) op (sub _ (inl refl)) (inl refl)) in
+      let g = op-few p rules fits q at [] op f o (λ y i. absurd (none y i)) (makes p rules fits q at (Bind x op k) op (sub _ (inl refl)) (inl refl)) in
       let first = bound-count p A h0 z0 6 op x k js l f g in
-      let rest = block-count p A h0 z0 (heavy V) k js (l + labels_of op) bl in
+      let rest = block-count p A h0 z0 (op_bound V) k js (l + labels_of op) bl in
       let more = some-operation k ws h (λ e i. sub e (inr (in-right (blocks_in op) (blocks k) e i))) in
       let one : Widths.operations k ≡ 1 = omega (arith, more, some, two) in
-      let m : heavy V * Widths.operations k ≡ heavy V * 1 = ap (λ n. heavy V * n) one in
+      let m : op_bound V * Widths.operations k ≡ op_bound V * 1 = ap (λ n. op_bound V * n) one in
       let s = stood-bind x op k in
       let d = made-bind x op k in
       let n1 : length (stood (blocks_in op)) ≡ 0 = ap (λ bs. length (stood bs)) alone in
@@ -66,14 +67,14 @@ module _ (p : AnfTree) (rules : KeepsRules p) (fits : Fits p) (q : ProcTree) (at
       count (code_last c op js l) + length (stood (blocks (Tail op))) ≤ 25 + 4 * length (celled op)
   tail-first op us js l f a none sub two alone =
       let o = other-ok p A h0 z0 op us f a in
-      let g = light p rules fits q at [] op f o (λ y i. absurd (none y i)) (makes p rules fits q at (Tail op) op (sub _ (inl refl)) (inl refl)) in
+      let g = op-few p rules fits q at [] op f o (λ y i. absurd (none y i)) (makes p rules fits q at (Tail op) op (sub _ (inl refl)) (inl refl)) in
       let first = tail-count p A h0 z0 6 op js l f g in
       let s = stood-tail op in
       let n1 : length (stood (blocks_in op)) ≡ 0 = ap (λ bs. length (stood bs)) alone in
       omega (arith, first, s, n1, two)
 
   closed-two : (b : Block) (ws : List ℕ) (js : Waiting) (l : ℕ) → BlockOk p A h0 z0 b ws → ((y : ℕ) → IsIn y (free p b) → ⊥) →
-      Inside p rules fits q at (blocks b) → Widths.operations b ≡ 2 → BlockLight p A h0 z0 (heavy V) b → heavy V ≤ 17 → length V ≤ 2 →
+      Inside p rules fits q at (blocks b) → Widths.operations b ≡ 2 → BlockFew p A h0 z0 (op_bound V) b → op_bound V ≤ 17 → length V ≤ 2 →
       count (code_block c b js l) + length (stood (blocks b)) ≤ 25 + 4 * length (made (blocks b))
   unfolding code_block
   closed-two (Bind x (Branch a b d) k) ws js l h none sub two bl few vars =
@@ -91,11 +92,11 @@ module _ (p : AnfTree) (rules : KeepsRules p) (fits : Fits p) (q : ProcTree) (at
   closed-two (CloseAll xs (m ∷ ms) k) ws js l h none sub two bl few vars =
       let more = some-operation k ws h.4 (λ e i. sub e (inr i)) in
       let here = bound p rules fits q at (CloseAll xs (m ∷ ms) k) (sub _ (inl refl)) in
-      let inside = in-group p rules fits q at xs (of_lambdas (captured_in p) (m ∷ ms) ++ free p k) here (λ y i. absurd (none y i)) in
-      let g = group-count p A h0 z0 8 xs (m ∷ ms) k js (all-light p rules fits q at 8 (omega (arith, vars)) (m ∷ ms) h.2 (λ y i. inside y (in-left (of_lambdas (captured_in p) (m ∷ ms)) _ y i))) in
-      let rest = block-count p A h0 z0 (heavy V) k js l bl.1 in
+      let inside = in-group (λ y. IsIn y V) xs (of_lambdas (captured_in p) (m ∷ ms) ++ free p k) here (λ y i. absurd (none y i)) in
+      let g = group-count p A h0 z0 8 xs (m ∷ ms) k js (all-few p rules fits q at 8 (omega (arith, vars)) (m ∷ ms) h.2 (λ y i. inside y (in-left (of_lambdas (captured_in p) (m ∷ ms)) _ y i))) in
+      let rest = block-count p A h0 z0 (op_bound V) k js l bl.1 in
       let one : Widths.operations k ≡ 1 = omega (arith, more, two) in
-      let e : heavy V * Widths.operations k ≡ heavy V * 1 = ap (λ n. heavy V * n) one in
+      let e : op_bound V * Widths.operations k ≡ op_bound V * 1 = ap (λ n. op_bound V * n) one in
       let s = length-append (m ∷ ms) (stood (blocks k)) in
       let w = count-append (group c xs (m ∷ ms) k js) (code_block c k js l) in
       omega (arith, g, rest, one, e, s, w, few, two)
@@ -107,13 +108,13 @@ module _ (p : AnfTree) (rules : KeepsRules p) (fits : Fits p) (q : ProcTree) (at
   closed-two (Tail op) ws js l h none sub two bl few vars =
       let g = tail-first op ws js l refl h none sub two refl in let m = length-append (celled op) [] in omega (arith, g, m)
 
-  heavy-most : (ys : List ℕ) (n : ℕ) → 17 ≤ n → 4 + 2 * length ys ≤ n → heavy ys ≤ n
-  heavy-most [] n a b = omega (arith, a)
-  heavy-most (y ∷ ys) n a b = omega (arith, a, b)
+  bound-most : (ys : List ℕ) (n : ℕ) → 17 ≤ n → 4 + 2 * length ys ≤ n → op_bound ys ≤ n
+  bound-most [] n a b = omega (arith, a)
+  bound-most (y ∷ ys) n a b = omega (arith, a, b)
 
-  heavy-none : (ys : List ℕ) → length ys ≤ 0 → heavy ys ≡ 6
-  heavy-none [] h = refl
-  heavy-none (y ∷ ys) h = absurd (omega (arith, h))
+  bound-none : (ys : List ℕ) → length ys ≤ 0 → op_bound ys ≡ 6
+  bound-none [] h = refl
+  bound-none (y ∷ ys) h = absurd (omega (arith, h))
 
   few-parts : (length (made (B p rules fits q at)) ≤ length q.params + length (of_each plain_binders (B p rules fits q at))) ×
       (length (of_each plain_binders (B p rules fits q at)) < Widths.operations q.body) ×
@@ -137,24 +138,24 @@ module _ (p : AnfTree) (rules : KeepsRules p) (fits : Fits p) (q : ProcTree) (at
       vars : length V ≤ length q.params + length q.captured + length (of_each plain_binders (blocks q.body)) + length (made (blocks q.body))
       vars = few-parts.2
 
-      all-of : count (code_block c q.body js l) + length (stood (blocks q.body)) ≤ heavy V * Widths.operations q.body + 4 * length (made (blocks q.body))
-      all-of = block-count p A h0 z0 (heavy V) q.body js l (body-light p rules fits q at)
+      all-of : count (code_block c q.body js l) + length (stood (blocks q.body)) ≤ op_bound V * Widths.operations q.body + 4 * length (made (blocks q.body))
+      all-of = block-count p A h0 z0 (op_bound V) q.body js l (body-few p rules fits q at)
 
-      times-of : (n : ℕ) → Widths.operations q.body ≡ n → heavy V * Widths.operations q.body ≡ heavy V * n
-      times-of n e = ap (λ k. heavy V * k) e
+      times-of : (n : ℕ) → Widths.operations q.body ≡ n → op_bound V * Widths.operations q.body ≡ op_bound V * n
+      times-of n e = ap (λ k. op_bound V * k) e
 
-      times-most : (n : ℕ) → Widths.operations q.body ≤ n → heavy V * Widths.operations q.body ≤ heavy V * n
-      times-most n le = mul-le-mul_left (heavy V) le
+      times-most : (n : ℕ) → Widths.operations q.body ≤ n → op_bound V * Widths.operations q.body ≤ op_bound V * n
+      times-most n le = mul-le-mul_left (op_bound V) le
 
       by-two : (n : ℕ) → Widths.operations q.body ≡ n → proc_width q ≡ 2 → Short js l 2
       by-two zero e w = absurd (omega (arith, e, plain))
       by-two (suc zero) e w =
-          let k = heavy-most V 17 (omega arith) (omega (arith, vars, few, plain, e, w)) in
+          let k = bound-most V 17 (omega arith) (omega (arith, vars, few, plain, e, w)) in
           let t = times-of 1 e in
           omega (arith, few, plain, vars, all-of, k, t, e, w)
       by-two (suc (suc zero)) e w =
-          let k = heavy-most V 17 (omega arith) (omega (arith, vars, few, plain, e, w)) in
-          let two = closed-two q.body [] js l (body-ok p rules fits q at) none (λ f i. i) e (body-light p rules fits q at) k (omega (arith, vars, few, plain, e, w)) in
+          let k = bound-most V 17 (omega arith) (omega (arith, vars, few, plain, e, w)) in
+          let two = closed-two q.body [] js l (body-ok p rules fits q at) none (λ f i. i) e (body-few p rules fits q at) k (omega (arith, vars, few, plain, e, w)) in
           omega (arith, few, plain, two, e, w)
         where
           empty : (xs : List ℕ) (y : ℕ) → length xs ≡ 0 → IsIn y xs → ⊥
@@ -170,23 +171,23 @@ module _ (p : AnfTree) (rules : KeepsRules p) (fits : Fits p) (q : ProcTree) (at
       by : (w : ℕ) → proc_width q ≡ w → Short js l w
       by zero e = absurd (omega (arith, e, plain))
       by (suc zero) e =
-          let k = heavy-none V (omega (arith, e, plain, vars, few)) in
+          let k = bound-none V (omega (arith, e, plain, vars, few)) in
           let t = times-of 1 (omega (arith, e, plain)) in
           omega (arith, few, plain, vars, all-of, k, t, e)
       by (suc (suc zero)) e = by-two (Widths.operations q.body) refl e
       by (suc (suc (suc zero))) e =
-          let k = heavy-most V 17 (omega arith) (omega (arith, vars, few, plain, e)) in
+          let k = bound-most V 17 (omega arith) (omega (arith, vars, few, plain, e)) in
           let t = times-most 3 (omega (arith, e)) in
           omega (arith, few, plain, vars, all-of, k, t, e)
       by (suc (suc (suc (suc zero)))) e =
-          let k = heavy-most V 17 (omega arith) (omega (arith, vars, few, plain, e)) in
+          let k = bound-most V 17 (omega arith) (omega (arith, vars, few, plain, e)) in
           let t = times-most 4 (omega (arith, e)) in
           omega (arith, few, plain, vars, all-of, k, t, e)
       by (suc (suc (suc (suc (suc v))))) e =
           let w : ℕ = suc (suc (suc (suc (suc v)))) in
-          let k = heavy-most V (4 * w) (omega arith) (omega (arith, vars, few, plain, e)) in
+          let k = bound-most V (4 * w) (omega arith) (omega (arith, vars, few, plain, e)) in
           let t = times-most w (omega (arith, e)) in
-          let u : heavy V * w ≤ 4 * w * w = mul-le-mul_right w k in
+          let u : op_bound V * w ≤ 4 * w * w = mul-le-mul_right w k in
           let s : 4 * w * w ≡ 4 * (w * w) = mul_assoc 4 w w in
           let f : 5 * w ≤ w * w = mul-le-mul_right w (omega arith) in
           omega (arith, few, plain, vars, all-of, t, u, s, f, e)

@@ -58,7 +58,7 @@ pub mod Jumps
 pub mod Ahead
 pub mod Nearing
 pub mod Counts
-pub mod Weights
+pub mod OperationCounts
 pub mod Lengths
 pub mod Short
 pub mod Walks

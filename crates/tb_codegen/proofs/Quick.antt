@@ -175,45 +175,45 @@ module _ (p : AnfTree) (notes : List Note) (c : Assembled) (fo : Follows p notes
 
 -- while it runs: the steps so far and those to the next `proc` at most
 module _ (c : Assembled) where
-  abbrev pace : ℕ
-  pace = window_bound c.code + 1
+  abbrev between : ℕ
+  between = window_bound c.code + 1
 
-  abbrev Paced : ℕ → FramedState → Type 0
-  Paced n (Runs m input es) = n + left c.code m.pc < pace * (length es + 1)
-  Paced n (Stays m s input es) = Unit {0}
+  abbrev Bounded : ℕ → FramedState → Type 0
+  Bounded n (Runs m input es) = n + left c.code m.pc < between * (length es + 1)
+  Bounded n (Stays m s input es) = Unit {0}
 
-  one-more : (es : List Event) (e : Event) → pace * (length (es ++ e ∷ []) + 1) ≡ pace * (length es + 1) + pace
+  one-more : (es : List Event) (e : Event) → between * (length (es ++ e ∷ []) + 1) ≡ between * (length es + 1) + between
   one-more es e =
       let l : length (es ++ e ∷ []) ≡ length es + 1 = length-append es (e ∷ []) in
-      ap (λ n. pace * (n + 1)) l ∙ mul-add pace (length es + 1) 1 ∙ ap (λ n. pace * (length es + 1) + n) one
+      ap (λ n. between * (n + 1)) l ∙ mul-add between (length es + 1) 1 ∙ ap (λ n. between * (length es + 1) + n) one
     where
-      one : pace * 1 ≡ pace
+      one : between * 1 ≡ between
       one = omega arith
 
-  emitted : (n x y : ℕ) (es : List Event) (e : Event) → n + x < pace * (length es + 1) → suc n + left c.code y < pace * (length (es ++ e ∷ []) + 1)
+  emitted : (n x y : ℕ) (es : List Event) (e : Event) → n + x < between * (length es + 1) → suc n + left c.code y < between * (length (es ++ e ∷ []) + 1)
   emitted n x y es e h = let w = left-within c.code y in let z = one-more es e in omega (arith, w, z, h)
 
-  outcome-paced : (n : ℕ) (m : Framed) (input : List ℕ) (es : List Event) (o : FramedOutcome) → Nears c m o → n + left c.code m.pc < pace * (length es + 1) →
-      Paced (suc n) (framed_after m input es o)
-  outcome-paced n m input es o (n_goes lt) h = omega (arith, lt, h)
-  outcome-paced n m input es o (n_shows {e = e} {n = m2}) h = emitted n (left c.code m.pc) m2.pc es e h
-  outcome-paced n m input es o n_asks h = emitted n (left c.code m.pc) (m.pc + 1) es _ h
-  outcome-paced n m input es o (n_peeks lt) h = omega (arith, lt, h)
-  outcome-paced n m input es o n_ends h = tt
+  outcome-bounded : (n : ℕ) (m : Framed) (input : List ℕ) (es : List Event) (o : FramedOutcome) → Nears c m o → n + left c.code m.pc < between * (length es + 1) →
+      Bounded (suc n) (framed_after m input es o)
+  outcome-bounded n m input es o (n_goes lt) h = omega (arith, lt, h)
+  outcome-bounded n m input es o (n_shows {e = e} {n = m2}) h = emitted n (left c.code m.pc) m2.pc es e h
+  outcome-bounded n m input es o n_asks h = emitted n (left c.code m.pc) (m.pc + 1) es _ h
+  outcome-bounded n m input es o (n_peeks lt) h = omega (arith, lt, h)
+  outcome-bounded n m input es o n_ends h = tt
 
-  step-paced : (n : ℕ) (t : FramedState) → StepNears c t → Paced n t → Paced (suc n) (framed_next (framed_fetched c) t)
-  step-paced n (Runs m input es) near h = outcome-paced n m input es (framed_fetched c m) near h
-  step-paced n (Stays m s input es) near h = tt
+  step-bounded : (n : ℕ) (t : FramedState) → StepNears c t → Bounded n t → Bounded (suc n) (framed_next (framed_fetched c) t)
+  step-bounded n (Runs m input es) near h = outcome-bounded n m input es (framed_fetched c m) near h
+  step-bounded n (Stays m s input es) near h = tt
 
-  paced : (heap : ℕ) (input : List ℕ) → ((n : ℕ) → StepNears c (after (framed_machine c heap input) n)) →
-      (n : ℕ) → Paced n (after (framed_machine c heap input) n)
-  paced heap input near zero = let w = left-within c.code 0 in let z : pace * (0 + 1) ≡ pace = omega arith in omega (arith, w, z)
-  paced heap input near (suc n) =
+  bounded : (heap : ℕ) (input : List ℕ) → ((n : ℕ) → StepNears c (after (framed_machine c heap input) n)) →
+      (n : ℕ) → Bounded n (after (framed_machine c heap input) n)
+  bounded heap input near zero = let w = left-within c.code 0 in let z : between * (0 + 1) ≡ between = omega arith in omega (arith, w, z)
+  bounded heap input near (suc n) =
       let z : suc n ≡ n + 1 = omega arith in
       let t = after (framed_machine c heap input) n in
       let e : after (framed_machine c heap input) (suc n) ≡ framed_next (framed_fetched c) t =
       ap (after (framed_machine c heap input)) z ∙ run-add (framed_next (framed_fetched c)) n 1 (Runs (framed_start c heap) input []) in
-      subst (Paced (suc n)) (sym e) (step-paced n t (near n) (paced heap input near n))
+      subst (Bounded (suc n)) (sym e) (step-bounded n t (near n) (bounded heap input near n))
 
 -- the label of a lifted lambda becomes the number of a `proc`
 lifted-zero : (p : AnfTree) (rules : KeepsRules p) (fits : Fits p) (l : ℕ) → IsLiftedAt (noted_items p) l →
@@ -249,5 +249,5 @@ pub code-quick : (p : AnfTree) → KeepsRules p → Fits p → (heap : ℕ) (inp
     after (framed_machine (code_of p) heap input) n ≡ Runs m rest es → n < (window_bound (code_of p).code + 1) * (length es + 1)
 code-quick p rules fits heap input n m rest es e =
     let h : n + left (code_of p).code m.pc < (window_bound (code_of p).code + 1) * (length es + 1) =
-    subst (Paced (code_of p) n) e (paced (code_of p) heap input (near-at p rules fits heap input) n) in
+    subst (Bounded (code_of p) n) e (bounded (code_of p) heap input (near-at p rules fits heap input) n) in
     omega (arith, h)

@@ -1,11 +1,10 @@
--- What the operations of a body weigh, by the variables that the body has.
-use Rattle.std.proofs.Common.{◌≡◌, true≢false, ℕ, ◌≤◌, ◌<◌, ◌+◌, ◌*◌, Bool, true, false, max, List, [], ◌∷◌, ◌++◌, length, length-append, Some, refl, sym, ap, ◌∙◌, subst, inl, inr, ⊎_elim, arith}
+-- How many instructions the operations of a body become, by the variables that the body has.
+use Rattle.std.proofs.Common.{◌≡◌, true≢false, ℕ, ◌≤◌, ◌<◌, ◌+◌, ◌*◌, true, false, max, List, [], ◌∷◌, ◌++◌, length, length-append, Some, refl, sym, ap, ◌∙◌, subst, inl, inr, ⊎_elim, arith}
 use Rattle.std.proofs.Math.Nat.{mul-add}
-use Rattle.std.proofs.lemmas.Bool.{cases_eq}
 use Rattle.tb_semantics.specs.Graph.{IsApart, IsIn}
 use Rattle.tb_semantics.proofs.ListLemmas.{in-left, in-right, in-cases}
-use Rattle.tb_core.specs.FreeVariables.{is_in, of_lambdas, without}
-use Rattle.tb_core.proofs.Members.{in-tested, in-without, no-longer}
+use Rattle.tb_core.specs.FreeVariables.{is_in, of_lambdas}
+use Rattle.tb_core.proofs.Members.{in-tested, no-longer}
 use Rattle.tb_ir.specs.AnfTree.{Operand, Quote, Var, Block, Bind, CloseAll, Tail, Op, Atom, Global, SetGlobal, DefGlobal, PrimUse, NewCell, CellGet, CellSet, Close, Call, Direct, Apply, Branch, ProcTree, AnfTree}
 use Rattle.tb_ir.specs.AnfMachine.{captured_by, free_op, free_of_atom, free_of_atoms, proc_of}
 use Rattle.tb_ir.specs.AnfRules.{KeepsRules, MakesCell, binders, blocks, blocks_in, celled, closed_by, named, of_each, operation, plain_binders, times_named}
@@ -17,37 +16,37 @@ use Rattle.tb_codegen.specs.Generate.{captured_in, noted_items}
 use Rattle.tb_codegen.specs.Homes.{frame_size, slot_of}
 use Rattle.tb_codegen.specs.Notes.{Noted}
 use Rattle.tb_codegen.proofs.Ok.{free}
-use Rattle.tb_codegen.proofs.BlockChains.{AllEntered, ArmsOk, BlockOk, kept-other}
+use Rattle.tb_codegen.proofs.BlockChains.{AllEntered, ArmsOk, BlockOk}
 use Rattle.tb_codegen.proofs.CodeChains.{is_branch}
-use Rattle.tb_codegen.proofs.Counts.{AllLight, ArmsLight, BlockLight, made, made-append, weight}
+use Rattle.tb_codegen.proofs.Counts.{AllFew, ArmsFew, BlockFew, made, made-append, op_count}
 use Rattle.tb_codegen.proofs.EntryChains.{apart-left, apart-right}
-use Rattle.tb_codegen.proofs.Fields.{plain-in, plain-within}
+use Rattle.tb_codegen.proofs.Fields.{behind-bind, in-group, plain-in, plain-within}
 use Rattle.tb_codegen.proofs.Namings.{each-append, every-at, in-each, is-proc, named-once, proc-found, times-append, times-in}
 use Rattle.tb_codegen.proofs.OperationChains.{OpOk}
 use Rattle.tb_codegen.proofs.Programs.{block-keeps, body-ok, keeps, named-in}
 
--- the weight of an operation in a body with these variables is at most this
-abbrev pub heavy : List ℕ → ℕ
-heavy [] = 6
-heavy (y ∷ ys) = max 17 (6 + 2 * length ys)
+-- an operation of a body with these variables becomes so many instructions at most
+abbrev pub op_bound : List ℕ → ℕ
+op_bound [] = 6
+op_bound (y ∷ ys) = max 17 (6 + 2 * length ys)
 
-heavy-some : (ys : List ℕ) → 6 ≤ heavy ys
-heavy-some [] = omega arith
-heavy-some (y ∷ ys) = omega arith
+bound-some : (ys : List ℕ) → 6 ≤ op_bound ys
+bound-some [] = omega arith
+bound-some (y ∷ ys) = omega arith
 
-pub heavy-closes : (ys : List ℕ) → 4 + 2 * length ys ≤ heavy ys
-heavy-closes [] = omega arith
-heavy-closes (y ∷ ys) = omega arith
+pub bound-closes : (ys : List ℕ) → 4 + 2 * length ys ≤ op_bound ys
+bound-closes [] = omega arith
+bound-closes (y ∷ ys) = omega arith
 
 all-quotes : (ds : List Operand) → ((y : ℕ) → IsIn y (free_of_atoms ds) → ⊥) → length ds ≡ quotes ds
 all-quotes [] h = refl
 all-quotes (Quote k ∷ ds) h = let e = all-quotes ds h in omega (arith, e)
 all-quotes (Var x ∷ ds) h = absurd (h x (inl refl))
 
-heavy-operands : (ys : List ℕ) (ds : List Operand) → ((y : ℕ) → IsIn y (free_of_atoms ds) → IsIn y ys) → length ds ≤ 13 →
-    length ds + 4 ≤ heavy ys * (1 + quotes ds)
-heavy-operands [] ds h few = let e = all-quotes ds h in omega (arith, e)
-heavy-operands (y ∷ ys) ds h few = let a = mul-add (heavy (y ∷ ys)) 1 (quotes ds) in omega (arith, a, few)
+bound-operands : (ys : List ℕ) (ds : List Operand) → ((y : ℕ) → IsIn y (free_of_atoms ds) → IsIn y ys) → length ds ≤ 13 →
+    length ds + 4 ≤ op_bound ys * (1 + quotes ds)
+bound-operands [] ds h few = let e = all-quotes ds h in omega (arith, e)
+bound-operands (y ∷ ys) ds h few = let a = mul-add (op_bound (y ∷ ys)) 1 (quotes ds) in omega (arith, a, few)
 
 once-apart : (zs : List ℕ) → ((z : ℕ) → IsIn z zs → times z zs ≤ 1) → IsApart zs
 once-apart [] h = tt
@@ -78,7 +77,7 @@ module _ (p : AnfTree) (rules : KeepsRules p) (fits : Fits p) (q : ProcTree) (at
   S = (q.params ++ q.captured) ++ of_each binders B
 
   abbrev pub K : ℕ
-  K = heavy S
+  K = op_bound S
 
   abbrev pub home : ℕ → ℕ
   home = slot_of q
@@ -112,88 +111,75 @@ module _ (p : AnfTree) (rules : KeepsRules p) (fits : Fits p) (q : ProcTree) (at
       no-longer (captured_in p m) T
       (subst (λ o. IsApart (captured_by o)) (sym e) (apart-left r.captured _ (apart-right r.params _ k.apart))) s
 
-  closes-light : (T : List ℕ) (m : ℕ) (r : ProcTree) → proc_of p.procs m ≡ Some r → Known T (captured_in p m) → 4 + 2 * length (captured_in p m) ≤ 4 + 2 * length T
-  closes-light T m r e s = let h = captured-within T m r e s in omega (arith, h)
+  closes-few : (T : List ℕ) (m : ℕ) (r : ProcTree) → proc_of p.procs m ≡ Some r → Known T (captured_in p m) → 4 + 2 * length (captured_in p m) ≤ 4 + 2 * length T
+  closes-few T m r e s = let h = captured-within T m r e s in omega (arith, h)
 
-  cell-light : (n : ℕ) (a : Operand) → MakesCell p own (NewCell a) → weight (captured_in p) (NewCell a) + 0 ≤ n * 0 + 4 * length (celled (NewCell a))
-  cell-light n (Quote c) h = absurd h
-  cell-light n (Var x) h = omega arith
+  cell-few : (n : ℕ) (a : Operand) → MakesCell p own (NewCell a) → op_count (captured_in p) (NewCell a) + 0 ≤ n * 0 + 4 * length (celled (NewCell a))
+  cell-few n (Quote c) h = absurd h
+  cell-few n (Var x) h = omega arith
 
-  pub light : (T : List ℕ) (op : Op) → is_branch op ≡ false → OpOk p all home size op → Known T (free_op (captured_in p) op) → MakesCell p own op →
-      weight (captured_in p) op + length (closed_by op) ≤ heavy T * Widths.operations_in op + 4 * length (celled op)
-  light T (Branch a b d) f h s c = absurd (true≢false f)
-  light T (Atom a) f h s c = let g = heavy-some T in omega (arith, g)
-  light T (Global g2 r) f h s c = let g = heavy-some T in omega (arith, g)
-  light T (SetGlobal g2 a r) f h s c = let g = heavy-some T in omega (arith, g)
-  light T (DefGlobal g2 a) f h s c = let g = heavy-some T in omega (arith, g)
-  light T (PrimUse r ds t) f h s c = let g = heavy-some T in let few = h.0 in omega (arith, g, few)
-  light T (NewCell a) f h s c = cell-light (heavy T) a c
-  light T (CellGet a r) f h s c = let g = heavy-some T in omega (arith, g)
-  light T (CellSet a b) f h s c = let g = heavy-some T in omega (arith, g)
-  light T (Close m) f h s c = let g = closes-light T m h.0 h.1.entered.there s in let k = heavy-closes T in omega (arith, g, k)
-  light T (Call g2 ds r) f h s c = let few = h.0 in let g = heavy-operands T (g2 ∷ ds) s (omega (arith, few)) in omega (arith, g)
-  light T (Direct m ds) f h s c = let few = h.0 in let g = heavy-operands T ds s (omega (arith, few)) in omega (arith, g)
-  light T (Apply g2 a r) f h s c = let g = heavy-some T in omega (arith, g)
+  pub op-few : (T : List ℕ) (op : Op) → is_branch op ≡ false → OpOk p all home size op → Known T (free_op (captured_in p) op) → MakesCell p own op →
+      op_count (captured_in p) op + length (closed_by op) ≤ op_bound T * Widths.operations_in op + 4 * length (celled op)
+  op-few T (Branch a b d) f h s c = absurd (true≢false f)
+  op-few T (Atom a) f h s c = let g = bound-some T in omega (arith, g)
+  op-few T (Global g2 r) f h s c = let g = bound-some T in omega (arith, g)
+  op-few T (SetGlobal g2 a r) f h s c = let g = bound-some T in omega (arith, g)
+  op-few T (DefGlobal g2 a) f h s c = let g = bound-some T in omega (arith, g)
+  op-few T (PrimUse r ds t) f h s c = let g = bound-some T in let few = h.0 in omega (arith, g, few)
+  op-few T (NewCell a) f h s c = cell-few (op_bound T) a c
+  op-few T (CellGet a r) f h s c = let g = bound-some T in omega (arith, g)
+  op-few T (CellSet a b) f h s c = let g = bound-some T in omega (arith, g)
+  op-few T (Close m) f h s c = let g = closes-few T m h.0 h.1.entered.there s in let k = bound-closes T in omega (arith, g, k)
+  op-few T (Call g2 ds r) f h s c = let few = h.0 in let g = bound-operands T (g2 ∷ ds) s (omega (arith, few)) in omega (arith, g)
+  op-few T (Direct m ds) f h s c = let few = h.0 in let g = bound-operands T ds s (omega (arith, few)) in omega (arith, g)
+  op-few T (Apply g2 a r) f h s c = let g = bound-some T in omega (arith, g)
 
-  pub all-light : (n : ℕ) → 4 + 2 * length S ≤ n → (ls : List ℕ) → AllEntered p all home size ls → Known S (of_lambdas (captured_in p) ls) → AllLight p all home size n ls
-  all-light n le [] h s = tt
-  all-light n le (m ∷ ms) h s = (
-    (let g = closes-light S m h.0.0 h.0.1.entered.there (λ y i. s y (in-left (captured_in p m) _ y i)) in omega (arith, g, le)),
-    all-light n le ms h.1 (λ y i. s y (in-right (captured_in p m) _ y i)),
+  pub all-few : (n : ℕ) → 4 + 2 * length S ≤ n → (ls : List ℕ) → AllEntered p all home size ls → Known S (of_lambdas (captured_in p) ls) → AllFew p all home size n ls
+  all-few n le [] h s = tt
+  all-few n le (m ∷ ms) h s = (
+    (let g = closes-few S m h.0.0 h.0.1.entered.there (λ y i. s y (in-left (captured_in p m) _ y i)) in omega (arith, g, le)),
+    all-few n le ms h.1 (λ y i. s y (in-right (captured_in p m) _ y i)),
   )
 
-  behind-bind : (x : ℕ) (op : Op) (k : Block) → IsIn x S → Known S (free p (Bind x op k)) → Known S (free p k)
-  behind-bind x op k hx s y i =
-      ⊎_elim (λ e. subst (λ z. IsIn z S) e hx)
-      (λ ne. s y (in-right (free_op (captured_in p) op) _ y (kept-other x y (free p k) i ne)))
-      (cases_eq x y)
-
-  pub in-group : (xs ys : List ℕ) → Known S xs → Known S (without xs ys) → Known S ys
-  in-group xs ys hx s y i = by (is_in xs y) refl
-    where
-      by : (b : Bool) → is_in xs y ≡ b → IsIn y S
-      by true e = hx y (in-tested xs y e)
-      by false e = s y (in-without xs ys y i e)
-
   mutual
-    light-of : (b : Block) (ws : List ℕ) → BlockOk p all home size b ws → Known S (free p b) → Inside (blocks b) → BlockLight p all home size K b
-    light-of (Bind x op k) ws h s sub = (
-      arms-of op _ h.1.0 (λ y i. s y (in-left (free_op (captured_in p) op) _ y i)) (makes (Bind x op k) op (sub _ (inl refl)) (inl refl))
+    block-few : (b : Block) (ws : List ℕ) → BlockOk p all home size b ws → Known S (free p b) → Inside (blocks b) → BlockFew p all home size K b
+    block-few (Bind x op k) ws h s sub = (
+      arms-few op _ h.1.0 (λ y i. s y (in-left (free_op (captured_in p) op) _ y i)) (makes (Bind x op k) op (sub _ (inl refl)) (inl refl))
           (λ e i. sub e (inr (in-left (blocks_in op) (blocks k) e i))),
-      light-of k ws h.1.1 (behind-bind x op k (bound (Bind x op k) (sub _ (inl refl)) x (inl refl)) s) (λ e i. sub e (inr (in-right (blocks_in op) (blocks k) e i))),
+      block-few k ws h.1.1 (behind-bind p (λ y. IsIn y S) x op k (bound (Bind x op k) (sub _ (inl refl)) x (inl refl)) s) (λ e i. sub e (inr (in-right (blocks_in op) (blocks k) e i))),
     )
-    light-of (CloseAll xs ls k) ws h s sub =
-        let inside = in-group xs (of_lambdas (captured_in p) ls ++ free p k) (bound (CloseAll xs ls k) (sub _ (inl refl))) s in (
-          all-light K (heavy-closes S) ls h.2 (λ y i. inside y (in-left (of_lambdas (captured_in p) ls) _ y i)),
-          light-of k ws h.4 (λ y i. inside y (in-right (of_lambdas (captured_in p) ls) _ y i)) (λ e i. sub e (inr i)),
+    block-few (CloseAll xs ls k) ws h s sub =
+        let inside = in-group (λ y. IsIn y S) xs (of_lambdas (captured_in p) ls ++ free p k) (bound (CloseAll xs ls k) (sub _ (inl refl))) s in (
+          all-few K (bound-closes S) ls h.2 (λ y i. inside y (in-left (of_lambdas (captured_in p) ls) _ y i)),
+          block-few k ws h.4 (λ y i. inside y (in-right (of_lambdas (captured_in p) ls) _ y i)) (λ e i. sub e (inr i)),
         )
-    light-of (Tail op) ws h s sub =
-        arms-of op ws h s (makes (Tail op) op (sub _ (inl refl)) (inl refl)) (λ e i. sub e (inr i))
+    block-few (Tail op) ws h s sub =
+        arms-few op ws h s (makes (Tail op) op (sub _ (inl refl)) (inl refl)) (λ e i. sub e (inr i))
 
-    arms-of : (op : Op) (ws : List ℕ) → ArmsOk p all home size op ws → Known S (free_op (captured_in p) op) → MakesCell p own op → Inside (blocks_in op) →
-        ArmsLight p all home size K op
-    arms-of (Branch a b d) ws h s c sub = (
-      (let g = heavy-some S in omega (arith, g)),
+    arms-few : (op : Op) (ws : List ℕ) → ArmsOk p all home size op ws → Known S (free_op (captured_in p) op) → MakesCell p own op → Inside (blocks_in op) →
+        ArmsFew p all home size K op
+    arms-few (Branch a b d) ws h s c sub = (
+      (let g = bound-some S in omega (arith, g)),
       (
-        light-of b ws h.1.0 (λ y i. s y (in-right (free_of_atom a) _ y (in-left (free p b) _ y i))) (λ e i. sub e (in-left (blocks b) (blocks d) e i)),
-        light-of d ws h.1.1 (λ y i. s y (in-right (free_of_atom a) _ y (in-right (free p b) _ y i))) (λ e i. sub e (in-right (blocks b) (blocks d) e i)),
+        block-few b ws h.1.0 (λ y i. s y (in-right (free_of_atom a) _ y (in-left (free p b) _ y i))) (λ e i. sub e (in-left (blocks b) (blocks d) e i)),
+        block-few d ws h.1.1 (λ y i. s y (in-right (free_of_atom a) _ y (in-right (free p b) _ y i))) (λ e i. sub e (in-right (blocks b) (blocks d) e i)),
       ),
     )
-    arms-of (Atom a) ws h s c sub = light S (Atom a) refl h s c
-    arms-of (Global g r) ws h s c sub = light S (Global g r) refl h s c
-    arms-of (SetGlobal g a r) ws h s c sub = light S (SetGlobal g a r) refl h s c
-    arms-of (DefGlobal g a) ws h s c sub = light S (DefGlobal g a) refl h s c
-    arms-of (PrimUse r ds t) ws h s c sub = light S (PrimUse r ds t) refl h s c
-    arms-of (NewCell a) ws h s c sub = light S (NewCell a) refl h s c
-    arms-of (CellGet a r) ws h s c sub = light S (CellGet a r) refl h s c
-    arms-of (CellSet a b) ws h s c sub = light S (CellSet a b) refl h s c
-    arms-of (Close m) ws h s c sub = light S (Close m) refl h s c
-    arms-of (Call g ds r) ws h s c sub = light S (Call g ds r) refl h s c
-    arms-of (Direct m ds) ws h s c sub = light S (Direct m ds) refl h s c
-    arms-of (Apply g a r) ws h s c sub = light S (Apply g a r) refl h s c
+    arms-few (Atom a) ws h s c sub = op-few S (Atom a) refl h s c
+    arms-few (Global g r) ws h s c sub = op-few S (Global g r) refl h s c
+    arms-few (SetGlobal g a r) ws h s c sub = op-few S (SetGlobal g a r) refl h s c
+    arms-few (DefGlobal g a) ws h s c sub = op-few S (DefGlobal g a) refl h s c
+    arms-few (PrimUse r ds t) ws h s c sub = op-few S (PrimUse r ds t) refl h s c
+    arms-few (NewCell a) ws h s c sub = op-few S (NewCell a) refl h s c
+    arms-few (CellGet a r) ws h s c sub = op-few S (CellGet a r) refl h s c
+    arms-few (CellSet a b) ws h s c sub = op-few S (CellSet a b) refl h s c
+    arms-few (Close m) ws h s c sub = op-few S (Close m) refl h s c
+    arms-few (Call g ds r) ws h s c sub = op-few S (Call g ds r) refl h s c
+    arms-few (Direct m ds) ws h s c sub = op-few S (Direct m ds) refl h s c
+    arms-few (Apply g a r) ws h s c sub = op-few S (Apply g a r) refl h s c
 
-  pub body-light : BlockLight p all home size K q.body
-  body-light = light-of q.body [] (body-ok p rules fits q at) free-known (λ e i. i)
+  pub body-few : BlockFew p all home size K q.body
+  body-few = block-few q.body [] (body-ok p rules fits q at) free-known (λ e i. i)
     where
       free-known : Known S (free p q.body)
       free-known y i =
@@ -201,13 +187,9 @@ module _ (p : AnfTree) (rules : KeepsRules p) (fits : Fits p) (q : ProcTree) (at
           (⊎_elim (λ j. in-right q.params q.captured y j) (λ j. in-left q.params q.captured y j) (named-in p rules fits q at y i))
 
   -- a body has an operation more than variables that are bound in it and are no cells
-  plain-arms : (x : ℕ) (op : Op) (k : Block) (ws : List ℕ) → ArmsOk p all home size op ws →
-      length (plain_binders (Bind x op k)) + length (of_each plain_binders (blocks_in op)) ≤ Widths.operations_in op
-  plain-arms x op k ws h = plain-in p all home size x op k ws h
-
   pub plain-fewer : (b : Block) (ws : List ℕ) → BlockOk p all home size b ws → Inside (blocks b) → length (of_each plain_binders (blocks b)) < Widths.operations b
   plain-fewer (Bind x op k) ws h sub =
-      let here = plain-arms x op k _ h.1.0 in
+      let here = plain-in p all home size x op k _ h.1.0 in
       let more = plain-fewer k ws h.1.1 (λ e i. sub e (inr (in-right (blocks_in op) (blocks k) e i))) in
       let e = ap length (each-append plain_binders (blocks_in op) (blocks k)) in
       let f = length-append (of_each plain_binders (blocks_in op)) (of_each plain_binders (blocks k)) in
