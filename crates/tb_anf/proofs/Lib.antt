@@ -40,3 +40,4 @@ pub mod NoWider
 pub mod WiderLemmas
 pub mod code
 pub mod rules
+pub mod RulesOnce

@@ -1,5 +1,5 @@
 -- Where the variables of a program are bound: in its forms, in its lambda expressions, or as parameters.
-use Rattle.std.proofs.Common.{◌≡◌, refl, sym, ap, ◌∙◌, subst, ℕ, zero, suc, List, [], ◌∷◌, ◌++◌, Some, slice_get}
+use Rattle.std.proofs.Common.{◌≡◌, refl, sym, ap, ◌∙◌, subst, ℕ, zero, suc, ◌<◌, arith, List, [], ◌∷◌, ◌++◌, Some, slice_get}
 use Rattle.std.proofs.lemmas.Option.{same_Some}
 use Rattle.tb_semantics.specs.Graph.{IsIn, IsApart}
 use Rattle.tb_core.specs.Rules.{Every}
@@ -45,7 +45,7 @@ variables-parts p =
 own_first : (l : LambdaTree) (ls : List LambdaTree) → own_in (l ∷ ls) ≡ own l.body ++ own_in ls
 own_first l ls = of_nodes-append binders (nodes l.body) (nodes_of_lambdas ls)
 
-own-at : (ls : List LambdaTree) (i : ℕ) (m : LambdaTree) → slice_get ls i ≡ Some m → (y : ℕ) → IsIn y (own m.body) →
+pub own-at : (ls : List LambdaTree) (i : ℕ) (m : LambdaTree) → slice_get ls i ≡ Some m → (y : ℕ) → IsIn y (own m.body) →
     IsIn y (own_in ls)
 own-at [] i m e y j = cc
 own-at (l ∷ ls) zero m e y j =
@@ -54,14 +54,14 @@ own-at (l ∷ ls) zero m e y j =
 own-at (l ∷ ls) (suc i) m e y j =
     subst (IsIn y) (sym (own_first l ls)) (in-right y (own l.body) _ (own-at ls i m e y j))
 
-param-at : (ls : List LambdaTree) (i : ℕ) (m : LambdaTree) → slice_get ls i ≡ Some m → (y : ℕ) →
+pub param-at : (ls : List LambdaTree) (i : ℕ) (m : LambdaTree) → slice_get ls i ≡ Some m → (y : ℕ) →
     IsIn y (parameters m) → IsIn y (params_of ls)
 param-at [] i m e y j = cc
 param-at (l ∷ ls) zero m e y j =
     in-left y (parameters l) _ (subst (λ t. IsIn y (parameters t)) (sym (same_Some l m e)) j)
 param-at (l ∷ ls) (suc i) m e y j = in-right y (parameters l) _ (param-at ls i m e y j)
 
-own-apart : (ls : List LambdaTree) (i : ℕ) (m : LambdaTree) → slice_get ls i ≡ Some m → IsApart (own_in ls) →
+pub own-apart : (ls : List LambdaTree) (i : ℕ) (m : LambdaTree) → slice_get ls i ≡ Some m → IsApart (own_in ls) →
     IsApart (own m.body)
 own-apart [] i m e a = cc
 own-apart (l ∷ ls) zero m e a =
@@ -96,6 +96,25 @@ form-apart (more d es) zero e t a =
     subst (λ z. IsApart (own z)) (same_Some d e t) (apart-left (own d) _ (subst IsApart (own-more d es) a))
 form-apart (more d es) (suc k) e t a = form-apart es k e t (apart-right (own d) _ (subst IsApart (own-more d es) a))
 
+-- nor in two
+two_bodies : (ls : List LambdaTree) (i j : ℕ) (m l : LambdaTree) → i < j → slice_get ls i ≡ Some m →
+    slice_get ls j ≡ Some l →
+    IsApart (own_in ls) → (y : ℕ) → IsIn y (own m.body) → IsIn y (own l.body) → ⊥
+two_bodies [] i j m l lt e f a y s t = cc
+two_bodies (k ∷ ls) i zero m l lt e f a y s t = absurd (omega arith)
+two_bodies (k ∷ ls) zero (suc j) m l lt e f a y s t =
+    apart-both (own k.body) (own_in ls) y (subst IsApart (own_first k ls) a)
+    (subst (λ z. IsIn y (own z.body)) (sym (same_Some k m e)) s) (own-at ls j l f y t)
+two_bodies (k ∷ ls) (suc i) (suc j) m l lt e f a y s t =
+    two_bodies ls i j m l (omega arith) e f (apart-right (own k.body) _ (subst IsApart (own_first k ls) a)) y s t
+
+params_apart : (ls : List LambdaTree) (i : ℕ) (m : LambdaTree) → slice_get ls i ≡ Some m → IsApart (params_of ls) →
+    IsApart (parameters m)
+params_apart [] i m e a = cc
+params_apart (l ∷ ls) zero m e a =
+    subst (λ t. IsApart (parameters t)) (same_Some l m e) (apart-left (parameters l) _ a)
+params_apart (l ∷ ls) (suc i) m e a = params_apart ls i m e (apart-right (parameters l) _ a)
+
 -- where each variable has one binding
 module _ (p : ProgramTree) (once : IsApart (variables p)) where
   all_apart : IsApart ((own_of p.forms ++ own_in p.lambdas) ++ params_of p.lambdas)
@@ -124,6 +143,16 @@ module _ (p : ProgramTree) (once : IsApart (variables p)) where
       IsIn y (own n.body) → m ≡ n
   same-body l k m n e f y i j =
       one-body p.lambdas l k m n e f (apart-right (own_of p.forms) _ bodies_apart) y i j
+
+  pub other-body : (l k : ℕ) (m n : LambdaTree) → l < k → IsLambda p l m → IsLambda p k n → (y : ℕ) → IsIn y
+      (own m.body) →
+      IsIn y (own n.body) → ⊥
+  other-body l k m n lt e f y i j =
+      two_bodies p.lambdas l k m n lt e f (apart-right (own_of p.forms) _ bodies_apart) y i j
+
+  pub params-once : (l : ℕ) (m : LambdaTree) → IsLambda p l m → IsApart (parameters m)
+  params-once l m e =
+      params_apart p.lambdas l m e (apart-right (own_of p.forms ++ own_in p.lambdas) (params_of p.lambdas) all_apart)
 
 -- where a variable is bound, it is a variable of the program
 pub form-variable : (p : ProgramTree) (y : ℕ) → IsIn y (own_of p.forms) → IsIn y (variables p)

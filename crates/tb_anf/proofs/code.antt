@@ -5,3 +5,4 @@ pub mod Forms
 pub mod Captures
 pub mod Uses
 pub mod Procs
+pub mod Program

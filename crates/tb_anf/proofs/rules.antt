@@ -8,3 +8,11 @@ pub mod Standing
 pub mod Few
 pub mod Bound
 pub mod Orders
+pub mod Walk
+pub mod Kinds
+pub mod BlocksKeep
+pub mod Named
+pub mod Closed
+pub mod ProcsKeep
+pub mod Passing
+pub mod Kept

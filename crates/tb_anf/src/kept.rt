@@ -13,7 +13,8 @@ ghost use Rattle.tb_anf.specs.NormalForm.{normal_form};
 
 /// In the normal form of a program that keeps its rules, under an order of it, each variable has one binding, each
 /// lambda expression stands at exactly one block or is lifted, the procs of the forms stand first and those of the
-/// lambda expressions in the order of their numbers, and there are fewer than 2^32 blocks and operations.
+/// lambda expressions, which are as many, in the order of their numbers, and there are fewer than 2^32 blocks and
+/// operations.
 pub fn lists_keep()
     ensures bound_once { (p : ProgramTree) (order : List Line) → KeepsRules (2 ^ 31) p → IsOrderOf p order → IsApart (anf.variables (normal_form p order)) }
     ensures lambdas_at_most_once { (p : ProgramTree) (order : List Line) → KeepsRules (2 ^ 31) p → IsOrderOf p order → IsApart (anf.standing (normal_form p order)) }
@@ -21,6 +22,7 @@ pub fn lists_keep()
         (l : ℕ) → l < length (lambdas_of (normal_form p order)) → is_in (anf.standing (normal_form p order)) l ≡ true }
     ensures forms_first { (p : ProgramTree) (order : List Line) → (normal_form p order).procs ≡ forms_of (normal_form p order) ++ lambdas_of (normal_form p order) }
     ensures numbered { (p : ProgramTree) (order : List Line) → Numbered 0 (lambdas_of (normal_form p order)) }
+    ensures lambdas { (p : ProgramTree) (order : List Line) → length (lambdas_of (normal_form p order)) ≡ length p.lambdas }
     ensures few_nodes { (p : ProgramTree) (order : List Line) → KeepsRules (2 ^ 31) p → IsOrderOf p order → node_count (normal_form p order) < 2 ^ 32 }
     ensures statics { (p : ProgramTree) (order : List Line) → KeepsRules (2 ^ 31) p → StaticsKeep 0 (normal_form p order).statics }
 {}

@@ -13,7 +13,7 @@ use Rattle.tb_assign.specs.Eliminate.{fresh, celled, renamed, new_cells, with_ce
 use Rattle.tb_assign.proofs.Counts.{times-append, times-in, times-same, apart-times}
 use Rattle.tb_assign.proofs.Free.{renamed-parameters}
 use Rattle.tb_assign.proofs.FreshNames.{named-once}
-use Rattle.tb_assign.proofs.NodesKept.{StandsFor, Makes, Reads, everywhere, bind-mark, unmarked}
+use Rattle.tb_assign.proofs.NodesKept.{StandsFor, Makes, Reads, everywhere, IsValue, a-value, bind-value}
 use Rattle.tb_assign.proofs.OwnLines.{lines-enough}
 use Rattle.tb_assign.proofs.ReadyFrom.{each-then, all-then}
 use Rattle.tb_assign.proofs.Standing.{of-nodes-append}
@@ -169,9 +169,11 @@ module _ (p : ProgramTree) (r : KeepsRules p) where
       K.FormsKeep (cells_of p) (eliminate_all g es)
   forms_kept none h m w = tt
   forms_kept (more e es) h m w = (
+    let v = a-value g e m.0 in
     record {
       makes_cells = body_makes _ (nodes (eliminate g e)) (part_left (nodes (eliminate g e)) (nodes_of (eliminate_all g es)) w) (λ z. tree_enough g z e h.0);
-      value = unmarked p r e m.0;
+      value = v.no_mark;
+      no_cell = v.no_cell;
     },
     forms_kept es h.1 m.1 (part_right (nodes (eliminate g e)) (nodes_of (eliminate_all g es)) w),
   )
@@ -181,10 +183,12 @@ module _ (p : ProgramTree) (r : KeepsRules p) where
       Every (λ (l : C.LambdaTree). K.BodyKeeps (cells_of p) (F.parameters l) l.body) (eliminate_lambdas g n ls)
   bodies_kept n [] h k w = tt
   bodies_kept n (l ∷ ls) h k w =
-      let body = with_cells g l.place (body_site n) (parameters l) (eliminate g l.body) in (
+      let body = with_cells g l.place (body_site n) (parameters l) (eliminate g l.body) in
+      let v = bind-value g l.place (body_site n) (celled g (parameters l)) (eliminate g l.body) (a-value g l.body (k.0).value) in (
         subst (λ xs. K.BodyKeeps (cells_of p) xs body) (sym (renamed-parameters g n l)) (record {
           makes_cells = body_makes _ (nodes body) (part_left (nodes body) _ w) (λ z. body_enough g z l.place (body_site n) (parameters l) l.body h.0);
-          value = bind-mark g l.place (body_site n) (celled g (parameters l)) (eliminate g l.body) (unmarked p r l.body (k.0).value);
+          value = v.no_mark;
+          no_cell = v.no_cell;
         }),
         bodies_kept (suc n) ls h.1 k.1 (part_right (nodes body) _ w),
       )

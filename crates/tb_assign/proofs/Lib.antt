@@ -41,3 +41,4 @@ pub mod BodiesKept
 pub mod Ordered
 pub mod RulesKept
 pub mod Eliminated
+pub mod Passed

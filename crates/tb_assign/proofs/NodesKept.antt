@@ -10,6 +10,7 @@ use Rattle.tb_core.proofs.Kept as Both
 use Rattle.tb_ir.specs.Tree as C
 use Rattle.tb_ir.specs.Rules as K
 use Rattle.tb_ir.specs.Rules.{nodes, nodes_in, nodes_of, nodes_of_lambdas, all_nodes, of_nodes, times, times_named}
+use Rattle.tb_ir.specs.Width.{is_new_cell}
 use Rattle.tb_assign.specs.Eliminate.{fresh, celled, renamed, new_cells, bind_cells, with_cells, cell_name, read_variable, eliminate, eliminate_form, eliminate_all, eliminate_lambdas, let_site, body_site, cells_of}
 use Rattle.tb_assign.proofs.AllNamed.{all-named}
 use Rattle.tb_assign.proofs.CellsBound.{NamesKnown, bound-to-cells, forms-names, body-names}
@@ -19,6 +20,7 @@ use Rattle.tb_assign.proofs.Lines.{count-all}
 use Rattle.tb_assign.proofs.ReadyFrom.{ready-from}
 use Rattle.tb_assign.proofs.Rel.{Good}
 use Rattle.tb_assign.proofs.Standing.{lambdas-count}
+use Rattle.tb_assign.proofs.Widths.{not-new}
 
 pub every-append : {X : Type 0} (P : X → Type 0) (xs ys : List X) → Every P xs → Every P ys → Every P (xs ++ ys)
 every-append P [] ys h k = k
@@ -114,9 +116,22 @@ pub no-marks : (g : ℕ → Bool) (es : Trees) → NoMark es → K.NoMark (elimi
 no-marks g none h = tt
 no-marks g (more e es) h = (mark-same g e ∙ h.0, no-marks g es h.1)
 
-pub bind-mark : (g : ℕ → Bool) (p : Place) (s : ℕ) (xs : List ℕ) (e : C.Tree) → K.is_mark e ≡ false → K.is_mark (bind_cells g p s xs e) ≡ false
-bind-mark g p s [] e h = h
-bind-mark g p s (x ∷ xs) e h = refl
+-- no expression of the source makes a cell
+pub no-cells : (g : ℕ → Bool) (es : Trees) → K.NoCell (eliminate_all g es)
+no-cells g none = tt
+no-cells g (more e es) = (not-new g e, no-cells g es)
+
+-- an expression that may be a body: neither the mark nor the making of a cell
+pub record IsValue (e : C.Tree) : Type 0 where
+  pub no_mark : K.is_mark e ≡ false
+  pub no_cell : is_new_cell e ≡ false
+
+pub a-value : (g : ℕ → Bool) (e : Tree) → is_mark e ≡ false → IsValue (eliminate g e)
+a-value g e h = record { no_mark = mark-same g e ∙ h; no_cell = not-new g e }
+
+pub bind-value : (g : ℕ → Bool) (p : Place) (s : ℕ) (xs : List ℕ) (e : C.Tree) → IsValue e → IsValue (bind_cells g p s xs e)
+bind-value g p s [] e h = h
+bind-value g p s (x ∷ xs) e h = record { no_mark = refl; no_cell = refl }
 
 module _ (p : ProgramTree) (r : KeepsRules p) where
   -- a variable of a `let` that may hold the mark is a fresh one
@@ -143,15 +158,15 @@ module _ (p : ProgramTree) (r : KeepsRules p) where
   R s f = Good p s f × NamesKnown (inner_free p) (variables p) s f
 
   name_kept : (q : Place) (s x : ℕ) → s < 2 ^ 24 → Kept (cell_name (is_assigned p) q s x)
-  name_kept q s x lt = record { small_site = omega arith; in_range = tt; shaped = tt; marks_are_operands = tt; reads_cells = tt }
+  name_kept q s x lt = record { small_site = omega arith; in_range = tt; shaped = tt; marks_are_operands = tt; reads_cells = tt; cells_are_operands = tt }
 
   cells_kept : (q : Place) (xs : List ℕ) → AreSmall xs → Every Kept (nodes_of (new_cells (is_assigned p) q xs))
   cells_kept q [] h = tt
   cells_kept q (x ∷ xs) h =
       let lt = h x (inl refl) in (
-        record { small_site = omega arith; in_range = tt; shaped = tt; marks_are_operands = (refl, tt); reads_cells = tt },
+        record { small_site = omega arith; in_range = tt; shaped = tt; marks_are_operands = (refl, tt); reads_cells = tt; cells_are_operands = (refl, tt) },
         (
-          record { small_site = omega arith; in_range = tt; shaped = tt; marks_are_operands = tt; reads_cells = tt },
+          record { small_site = omega arith; in_range = tt; shaped = tt; marks_are_operands = tt; reads_cells = tt; cells_are_operands = tt },
           cells_kept q xs (λ y i. h y (inr i)),
         ),
       )
@@ -161,25 +176,25 @@ module _ (p : ProgramTree) (r : KeepsRules p) where
   cells_counted q (x ∷ xs) = let h = cells_counted q xs in omega arith
 
   -- the `let` that makes the cells of a list of variables
-  pub makes-kept : (q : Place) (s : ℕ) (xs : List ℕ) (e : C.Tree) → s < 2 ^ 27 → AreSmall xs → K.is_mark e ≡ false →
+  pub makes-kept : (q : Place) (s : ℕ) (xs : List ℕ) (e : C.Tree) → s < 2 ^ 27 → AreSmall xs → IsValue e →
       Makes Kept (is_assigned p) q s xs e
   makes-kept q s [] e lt h m = tt
   makes-kept q s (x ∷ xs) e lt h m = (
-    record { small_site = lt; in_range = tt; shaped = cells_counted q (x ∷ xs); marks_are_operands = (cells_unmarked q (x ∷ xs), m); reads_cells = tt },
+    record { small_site = lt; in_range = tt; shaped = cells_counted q (x ∷ xs); marks_are_operands = (cells_unmarked q (x ∷ xs), m.no_mark); reads_cells = tt; cells_are_operands = (m.no_cell, tt) },
     cells_kept q (x ∷ xs) h,
   )
 
   read_kept : (q : Place) (s x : ℕ) (b : Bool) → s < 2 ^ 24 → is_assigned p x ≡ b → IsIn x (variables p) →
       Reads Kept (is_assigned p) q s x b
   read_kept q s x true lt e i = (
-    record { small_site = omega arith; in_range = tt; shaped = tt; marks_are_operands = (refl, tt); reads_cells = bound-to-cells p r x i e },
+    record { small_site = omega arith; in_range = tt; shaped = tt; marks_are_operands = (refl, tt); reads_cells = bound-to-cells p r x i e; cells_are_operands = (refl, tt) },
     name_kept q s x lt,
   )
-  read_kept q s x false lt e i = record { small_site = omega arith; in_range = tt; shaped = tt; marks_are_operands = tt; reads_cells = tt }
+  read_kept q s x false lt e i = record { small_site = omega arith; in_range = tt; shaped = tt; marks_are_operands = tt; reads_cells = tt; cells_are_operands = tt }
 
-  renamed_count : (xs : List ℕ) → length (renamed (is_assigned p) xs) ≡ length xs
-  renamed_count [] = refl
-  renamed_count (x ∷ xs) = ap suc (renamed_count xs)
+  pub renamed-count : (xs : List ℕ) → length (renamed (is_assigned p) xs) ≡ length xs
+  renamed-count [] = refl
+  renamed-count (x ∷ xs) = ap suc (renamed-count xs)
 
   same_count : (l : ℕ) → l < length p.lambdas → l < length (cells_of p).lambdas
   same_count l lt = subst (λ n. l < n) (sym (lambdas-count (is_assigned p) 0 p.lambdas)) lt
@@ -194,44 +209,46 @@ module _ (p : ProgramTree) (r : KeepsRules p) where
   -- what stands for a node keeps the rules
   pub stands-kept : (q : Place) (s : ℕ) (f : Form) → R s f → StandsFor Kept (is_assigned p) q s f
   stands-kept q s (Quote c) h = let k = (h.0).node in let lt = k.small_site in
-      record { small_site = omega arith; in_range = k.in_range; shaped = tt; marks_are_operands = tt; reads_cells = tt }
+      record { small_site = omega arith; in_range = k.in_range; shaped = tt; marks_are_operands = tt; reads_cells = tt; cells_are_operands = tt }
   stands-kept q s (Local x) h = read_kept q s x (is_assigned p x) ((h.0).node).small_site refl h.1
   stands-kept q s (Global n) h = let k = (h.0).node in let lt = k.small_site in
-      record { small_site = omega arith; in_range = k.in_range; shaped = tt; marks_are_operands = tt; reads_cells = tt }
+      record { small_site = omega arith; in_range = k.in_range; shaped = tt; marks_are_operands = tt; reads_cells = tt; cells_are_operands = tt }
   stands-kept q s (Lambda l) h = let k = (h.0).node in let lt = k.small_site in
-      record { small_site = omega arith; in_range = (same_count l k.in_range, tt); shaped = tt; marks_are_operands = tt; reads_cells = tt }
+      record { small_site = omega arith; in_range = (same_count l k.in_range, tt); shaped = tt; marks_are_operands = tt; reads_cells = tt; cells_are_operands = tt }
   stands-kept q s (If a b c) h = let k = (h.0).node in let lt = k.small_site in
-      record { small_site = omega arith; in_range = tt; shaped = tt; marks_are_operands = no-marks (is_assigned p) (more a (more b (more c none))) k.marks_are_operands; reads_cells = tt }
+      record { small_site = omega arith; in_range = tt; shaped = tt; marks_are_operands = no-marks (is_assigned p) (more a (more b (more c none))) k.marks_are_operands; reads_cells = tt; cells_are_operands = no-cells (is_assigned p) (more a (more b (more c none))) }
   stands-kept q s (SetLocal x e) h = let k = (h.0).node in let lt = k.small_site in (
-    record { small_site = omega arith; in_range = tt; shaped = tt; marks_are_operands = (refl, (unmarked e k.marks_are_operands, tt)); reads_cells = bound-to-cells p r x h.1 (h.0).binds },
+    record { small_site = omega arith; in_range = tt; shaped = tt; marks_are_operands = (refl, (unmarked e k.marks_are_operands, tt)); reads_cells = bound-to-cells p r x h.1 (h.0).binds; cells_are_operands = (refl, (not-new (is_assigned p) e, tt)) },
     name_kept q s x lt,
   )
   stands-kept q s (SetGlobal n e) h = let k = (h.0).node in let lt = k.small_site in
-      record { small_site = omega arith; in_range = k.in_range; shaped = tt; marks_are_operands = (unmarked e k.marks_are_operands, tt); reads_cells = tt }
+      record { small_site = omega arith; in_range = k.in_range; shaped = tt; marks_are_operands = (unmarked e k.marks_are_operands, tt); reads_cells = tt; cells_are_operands = (not-new (is_assigned p) e, tt) }
   stands-kept q s (DefGlobal n e) h = let k = (h.0).node in let lt = k.small_site in
-      record { small_site = omega arith; in_range = k.in_range; shaped = tt; marks_are_operands = (unmarked e k.marks_are_operands, tt); reads_cells = tt }
+      record { small_site = omega arith; in_range = k.in_range; shaped = tt; marks_are_operands = (unmarked e k.marks_are_operands, tt); reads_cells = tt; cells_are_operands = (not-new (is_assigned p) e, tt) }
   stands-kept q s (Let xs es e) h = let k = (h.0).node in let lt = k.small_site in
-      let m = unmarked e (k.marks_are_operands).1 in (
+      let m = a-value (is_assigned p) e (k.marks_are_operands).1 in
+      let bound = bind-value (is_assigned p) q (let_site s) (celled (is_assigned p) xs) (eliminate (is_assigned p) e) m in (
         record {
           small_site = omega arith;
           in_range = tt;
-          shaped = renamed_count xs ∙ k.shaped ∙ sym (count-all (is_assigned p) es);
-          marks_are_operands = (marks_of xs es (k.marks_are_operands).0, bind-mark (is_assigned p) q (let_site s) (celled (is_assigned p) xs) (eliminate (is_assigned p) e) m);
+          shaped = renamed-count xs ∙ k.shaped ∙ sym (count-all (is_assigned p) es);
+          marks_are_operands = (marks_of xs es (k.marks_are_operands).0, bound.no_mark);
           reads_cells = tt;
+          cells_are_operands = (bound.no_cell, tt);
         },
         makes-kept q (let_site s) (celled (is_assigned p) xs) (eliminate (is_assigned p) e) (omega arith)
             (λ y i. ((h.0).binds).small y (celled-in (is_assigned p) xs y i).0) m,
       )
   stands-kept q s (Letrec xs ls e) h = let k = (h.0).node in let lt = k.small_site in
-      record { small_site = omega arith; in_range = same_counts ls k.in_range; shaped = k.shaped; marks_are_operands = (unmarked e k.marks_are_operands, tt); reads_cells = tt }
+      record { small_site = omega arith; in_range = same_counts ls k.in_range; shaped = k.shaped; marks_are_operands = (unmarked e k.marks_are_operands, tt); reads_cells = tt; cells_are_operands = (not-new (is_assigned p) e, tt) }
   stands-kept q s (Seq es) h = let k = (h.0).node in let lt = k.small_site in
-      record { small_site = omega arith; in_range = tt; shaped = subst (λ n. 1 ≤ n) (sym (count-all (is_assigned p) es)) k.shaped; marks_are_operands = no-marks (is_assigned p) es k.marks_are_operands; reads_cells = tt }
+      record { small_site = omega arith; in_range = tt; shaped = subst (λ n. 1 ≤ n) (sym (count-all (is_assigned p) es)) k.shaped; marks_are_operands = no-marks (is_assigned p) es k.marks_are_operands; reads_cells = tt; cells_are_operands = no-cells (is_assigned p) es }
   stands-kept q s (Call f es) h = let k = (h.0).node in let lt = k.small_site in
-      record { small_site = omega arith; in_range = tt; shaped = tt; marks_are_operands = no-marks (is_assigned p) (more f es) k.marks_are_operands; reads_cells = tt }
+      record { small_site = omega arith; in_range = tt; shaped = tt; marks_are_operands = no-marks (is_assigned p) (more f es) k.marks_are_operands; reads_cells = tt; cells_are_operands = no-cells (is_assigned p) (more f es) }
   stands-kept q s (PrimUse a es) h = let k = (h.0).node in let lt = k.small_site in
-      record { small_site = omega arith; in_range = tt; shaped = count-all (is_assigned p) es ∙ k.shaped; marks_are_operands = no-marks (is_assigned p) es k.marks_are_operands; reads_cells = tt }
+      record { small_site = omega arith; in_range = tt; shaped = count-all (is_assigned p) es ∙ k.shaped; marks_are_operands = no-marks (is_assigned p) es k.marks_are_operands; reads_cells = tt; cells_are_operands = no-cells (is_assigned p) es }
   stands-kept q s (Apply f l) h = let k = (h.0).node in let lt = k.small_site in
-      record { small_site = omega arith; in_range = tt; shaped = tt; marks_are_operands = no-marks (is_assigned p) (more f (more l none)) k.marks_are_operands; reads_cells = tt }
+      record { small_site = omega arith; in_range = tt; shaped = tt; marks_are_operands = no-marks (is_assigned p) (more f (more l none)) k.marks_are_operands; reads_cells = tt; cells_are_operands = no-cells (is_assigned p) (more f (more l none)) }
 
   pub each_lambda : (Q : LambdaTree → Type 0) (ls : List LambdaTree) →
       ((n : ℕ) (l : LambdaTree) → slice_get ls n ≡ Some l → Q l) → Every Q ls
@@ -248,7 +265,7 @@ module _ (p : ProgramTree) (r : KeepsRules p) where
   -- what holds of what stands for each node, and of what makes the cells of parameters, holds of all nodes
   module _ (P : ℕ → Form → Type 0) (Q : C.Tree → Type 0)
       (stand : (q : Place) (s : ℕ) (f : Form) → P s f → StandsFor Q (is_assigned p) q s f)
-      (makes : (q : Place) (n : ℕ) (xs : List ℕ) (e : C.Tree) → n < 2 ^ 24 → AreSmall xs → K.is_mark e ≡ false →
+      (makes : (q : Place) (n : ℕ) (xs : List ℕ) (e : C.Tree) → n < 2 ^ 24 → AreSmall xs → IsValue e →
       Makes Q (is_assigned p) q (body_site n) xs e) where
     at_each : (ls : List LambdaTree) → Every (λ (l : LambdaTree). Each P l.body) ls → Every (λ (l : LambdaTree). AreSmall (parameters l) × (is_mark l.body ≡ false)) ls →
         (n : ℕ) → length ls + n ≤ 2 ^ 24 → Every Q (nodes_of_lambdas (eliminate_lambdas (is_assigned p) n ls))
@@ -257,7 +274,7 @@ module _ (p : ProgramTree) (r : KeepsRules p) where
         every-append Q (nodes (with_cells (is_assigned p) l.place (body_site n) (parameters l) (eliminate (is_assigned p) l.body))) _
         (every-bind Q (is_assigned p) l.place (body_site n) (celled (is_assigned p) (parameters l)) (eliminate (is_assigned p) l.body)
         (makes l.place n (celled (is_assigned p) (parameters l)) (eliminate (is_assigned p) l.body) (omega arith)
-        (λ y i. (k.0).0 y (celled-in (is_assigned p) (parameters l) y i).0) (unmarked l.body (k.0).1))
+        (λ y i. (k.0).0 y (celled-in (is_assigned p) (parameters l) y i).0) (a-value (is_assigned p) l.body (k.0).1))
         (every-tree Q (is_assigned p) P stand l.body h.0))
         (at_each ls h.1 k.1 (suc n) (omega arith))
 

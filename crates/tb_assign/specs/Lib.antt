@@ -1,3 +1,4 @@
 pub mod Eliminate
 pub mod Examples
 pub mod calls
+pub mod Constants

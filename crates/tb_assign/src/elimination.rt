@@ -19,13 +19,12 @@ ghost use Rattle.tb_ir.specs.Width.{all_widths};
 ghost use Rattle.tb_assign.specs.Eliminate as spec;
 ghost use Rattle.tb_assign.specs.calls.Cells.{made};
 
-use super::copies::{copy_names, copy_statics};
 use super::targets::{MAX_DEPTH, assigned_table, levels_below};
 use sqlite_items::Boxed;
 use std::alloc::Global;
 use tb_core::{Core, Expr, Lambda, LambdaId, Order, Program, Site, VarId};
 use tb_ir::{CellCore, CellExpr, CellExprRow, CellLambda, CellLambdaRow, CellProgram};
-use tb_prim::{NoMemory, Place, Row};
+use tb_prim::{NoMemory, Place, Row, copy_names, copy_statics};
 
 /// The first number of a fresh variable, and of the site of a new `let`: all numbers of a program are below.
 const FRESH: u32 = 0x100_0000;

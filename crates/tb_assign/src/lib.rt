@@ -2,7 +2,6 @@
 //! the source, `cells_of` in `specs/Eliminate`, and `eliminate` computes it; `laws` says what it keeps.
 #![tactic(auto)]
 
-mod copies;
 mod elimination;
 mod examples;
 pub mod laws;

@@ -120,3 +120,8 @@ PutsAllTold held now bytes (Err e) = (count : ℕ) × PutsSome held now bytes co
 -- what putting all of the bytes does to the bytes held, where they are told
 abbrev pub PutsAll : Option (List ℕ) → Option (List ℕ) → List ℕ → Result (Unit {0}) Failed → Type 0
 PutsAll before now bytes result = IfSome before (λ held. PutsAllTold held now bytes result)
+
+-- a count never falls, and reading all failed only if it rose
+pub record AllHasCause {T : Type 0} (before now : ℕ) (result : Result T LoadFault) : Type 0 where
+  pub later : before ≤ now
+  pub failed : result ≡ Err LoadFault.Failed → Rose before now

@@ -132,7 +132,7 @@ mark-label e = cc
 mark-note : {l m : ℕ} {n o : Note} → Mark l n ≡ Mark m o → n ≡ o
 mark-note e = cc
 
-other-label : (m l base : ℕ) (js : List Noted) → (m ≡ l → ⊥) →
+pub other-label : (m l base : ℕ) (js : List Noted) → (m ≡ l → ⊥) →
     cond (m == l) (Some base) (stands_at l base (map item_of js)) ≡ stands_at l base (map item_of js)
 other-label m l base js ne = by (m == l) refl
   where
@@ -243,7 +243,7 @@ module _ (p : AnfTree) (all : List Noted) where
       (r.0, other-label m l base js (λ e. ap_is.0 (subst (λ k. IsIn k (labels (items_of js))) (sym e) (mark-in l n js i))) ∙ r.1, r.2)
 
 -- how many instructions items have
-abbrev count : List Noted → ℕ
+abbrev pub count : List Noted → ℕ
 count [] = 0
 count (Mark l n ∷ is) = count is
 count (Does i n q ∷ is) = suc (count is)

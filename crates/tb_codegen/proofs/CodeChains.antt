@@ -26,7 +26,7 @@ module _ (p : AnfTree) (all : List Noted) (home : ℕ → ℕ) (size : ℕ) wher
   abbrev c : Body
   c = body p all home size
 
-  other-ok : (op : Op) (ws : List ℕ) → is_branch op ≡ false → ArmsOk p all home size op ws → OpOk p all home size op
+  pub other-ok : (op : Op) (ws : List ℕ) → is_branch op ≡ false → ArmsOk p all home size op ws → OpOk p all home size op
   other-ok (Branch a b d) ws e w = absurd (true≢false e)
   other-ok (Atom a) ws e w = w
   other-ok (Global g q) ws e w = w

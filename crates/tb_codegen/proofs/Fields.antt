@@ -85,7 +85,7 @@ module _ (p : AnfTree) (w : ℕ) (narrow : w ≤ 1000) (all : List Noted) (home 
   lambdas-good (m ∷ ms) s =
       (record { few = few m; slots = λ x i. s x (in-left (captured_in p m) _ x i) }, lambdas-good ms (λ x i. s x (in-right (captured_in p m) _ x i)))
 
-  other-arms : (op : Op) (ws : List ℕ) → is_branch op ≡ false → ArmsOk p all home size op ws → OpOk p all home size op
+  pub other-arms : (op : Op) (ws : List ℕ) → is_branch op ≡ false → ArmsOk p all home size op ws → OpOk p all home size op
   other-arms (Branch a b d) ws e w2 = absurd (true≢false e)
   other-arms (Atom a) ws e w2 = w2
   other-arms (Global g q) ws e w2 = w2
@@ -180,7 +180,7 @@ module _ (p : AnfTree) (all : List Noted) (home : ℕ → ℕ) (size : ℕ) wher
         let more = plain-within k ws h.4 in let e = h.0 in let g = length-append xs (of_each plain_binders (blocks k)) in omega (arith, more, e, g)
     plain-within (Tail op) ws h = plain-last op ws h
 
-    plain-in : (x : ℕ) (op : Op) (k : Block) (ws : List ℕ) → ArmsOk p all home size op ws →
+    pub plain-in : (x : ℕ) (op : Op) (k : Block) (ws : List ℕ) → ArmsOk p all home size op ws →
         length (plain_binders (Bind x op k)) + length (of_each plain_binders (blocks_in op)) ≤ Widths.operations_in op
     plain-in x (Branch a b d) k ws h =
         let l = plain-within b ws h.1.0 in let r = plain-within d ws h.1.1 in
@@ -190,7 +190,7 @@ module _ (p : AnfTree) (all : List Noted) (home : ℕ → ℕ) (size : ℕ) wher
     plain-in x (NewCell a) k ws h = omega arith
     plain-in x op k ws h = omega arith
 
-    plain-last : (op : Op) (ws : List ℕ) → ArmsOk p all home size op ws → length (of_each plain_binders (blocks_in op)) ≤ Widths.operations_in op
+    pub plain-last : (op : Op) (ws : List ℕ) → ArmsOk p all home size op ws → length (of_each plain_binders (blocks_in op)) ≤ Widths.operations_in op
     plain-last (Branch a b d) ws h =
         let l = plain-within b ws h.1.0 in let r = plain-within d ws h.1.1 in
         let e = ap length (each-append plain_binders (blocks b) (blocks d)) in

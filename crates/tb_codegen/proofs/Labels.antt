@@ -27,7 +27,7 @@ labels-marks [] = refl
 labels-marks (Mark l n ∷ is) = ap (λ ls. l ∷ ls) (labels-marks is)
 labels-marks (Does i n p ∷ is) = labels-marks is
 
-marks-append : (is js : List Noted) → marks (is ++ js) ≡ marks is ++ marks js
+pub marks-append : (is js : List Noted) → marks (is ++ js) ≡ marks is ++ marks js
 marks-append [] js = refl
 marks-append (Mark l n ∷ is) js = ap (λ ls. l ∷ ls) (marks-append is js)
 marks-append (Does i n p ∷ is) js = marks-append is js

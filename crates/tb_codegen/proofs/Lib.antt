@@ -53,6 +53,15 @@ pub mod Space
 pub mod Keeping
 pub mod Begin
 pub mod Follows
+pub mod Windows
+pub mod Jumps
+pub mod Ahead
+pub mod Nearing
+pub mod Counts
+pub mod Weights
+pub mod Lengths
+pub mod Short
 pub mod Walks
+pub mod Quick
 pub mod Marks
 pub mod MarkSteps

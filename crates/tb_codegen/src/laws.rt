@@ -1,15 +1,18 @@
 //! What code of programs in A-normal form keeps.
 
-ghost use Rattle.std.specs.Prelude.{◌<◌, ◌≤◌, ◌+◌, ◌*◌, ◌^◌, ℕ, List, length, map};
+ghost use Rattle.std.specs.Prelude.{◌≡◌, ◌<◌, ◌≤◌, ◌+◌, ◌*◌, ◌^◌, ℕ, List, length, map};
+ghost use Rattle.tb_prim.specs.declared.event.Event.{Event};
 ghost use Rattle.tb_semantics.specs.Keeps.{Keeps};
 ghost use Rattle.tb_semantics.specs.Runs.{after};
 ghost use Rattle.tb_ir.specs.AnfTree.{AnfTree};
 ghost use Rattle.tb_ir.specs.AnfRules.{KeepsRules};
-ghost use Rattle.tb_ir.specs.AnfWidth.{width_of};
+ghost use Rattle.tb_ir.specs.AnfWidth.{square_sum, width_of};
 ghost use Rattle.tb_ir.specs.Measures.{anf_measured};
 ghost use Rattle.tb_mac.specs.Assemble.{ItemsOk, instructions};
-ghost use Rattle.tb_mac.specs.Bounds.{frame_bound, space_bound};
-ghost use Rattle.tb_mac.specs.FramedRuns.{framed_machine, framed_of, measured_machine};
+ghost use Rattle.tb_mac.specs.Bounds.{frame_bound, space_bound, window_bound};
+ghost use Rattle.tb_mac.specs.declared.code.Instr.{Instr};
+ghost use Rattle.tb_mac.specs.Frames.{Framed};
+ghost use Rattle.tb_mac.specs.FramedRuns.{Runs, framed_machine, framed_of, measured_machine};
 ghost use Rattle.tb_mac.specs.LiveWords.{IsWalkable};
 ghost use Rattle.tb_codegen.specs.Fits.{Fits};
 ghost use Rattle.tb_codegen.specs.Generate.{noted_items};
@@ -40,4 +43,22 @@ pub fn code_is_walkable()
 pub fn items_can_be_assembled()
     ensures conditions { (p : AnfTree) → KeepsRules p → Fits p → length (instructions (map item_of (noted_items p))) < 2 ^ 24 →
         ItemsOk (parts_of p) (map item_of (noted_items p)) }
+{}
+
+/// Code has at most eight times as many instructions as the squares of its program's widths come to, and eight more.
+pub fn code_is_short()
+    ensures short { (p : AnfTree) → KeepsRules p → Fits p → length (code_of p).code ≤ 8 * square_sum p + 8 }
+{}
+
+/// In every memory and with every input, code that still runs has taken less steps than its events so far and one more,
+/// times the instructions of its longest procedure and two more.
+pub fn code_is_quick()
+    ensures quick { (p : AnfTree) → KeepsRules p → Fits p → (heap : ℕ) (input : List ℕ) (n : ℕ) (m : Framed) (rest : List ℕ)
+        (es : List Event) → after (framed_machine (code_of p) heap input) n ≡ Runs m rest es →
+        n < (window_bound (code_of p).code + 2) * (length es + 1) }
+{}
+
+/// No procedure is longer than the code.
+pub fn windows_are_short()
+    ensures short { (code : List Instr) → window_bound code ≤ length code }
 {}

@@ -10,6 +10,9 @@ pub mod Lines
 pub mod Fits
 pub mod Partners
 pub mod Kept
+pub mod WithinLimits
+pub mod ShortLines
+pub mod MostEvents
 pub mod NeverLost
 pub mod Views
 pub mod Judging

@@ -1,12 +1,12 @@
 -- The line of a node has the number of each operand once, and the values by its numbers are those of all.
 use Rattle.std.proofs.Common.{◌≡◌, refl, ap, ◌∙◌, ℕ, zero, suc, ◌+◌, ◌<◌, ◌≤◌, ◌⊎◌, inl, inr, ⊎_elim, arith, Bool, true, false, cond, ◌==◌, List, [], ◌∷◌, length, Some, length-append}
 use Rattle.std.proofs.lemmas.Bool.{cases_Bool, cases_lt, eqb-true, eqb-false}
-use Rattle.tb_semantics.specs.Graph.{IsIn}
+use Rattle.tb_semantics.specs.Graph.{IsIn, IsApart}
 use Rattle.tb_core.specs.Tree.{Tree, Trees, none, more, count, tree_at}
 use Rattle.tb_core.specs.OperandOrder.{is_simple, numbers, line_of}
 use Rattle.tb_core.specs.Store.{Value}
 use Rattle.tb_core.specs.Reference.{value_for, prepend, arranged}
-use Rattle.tb_core.proofs.Members.{in-left, in-right, in-either}
+use Rattle.tb_core.proofs.Members.{in-left, in-right, in-either, apart-append}
 
 -- the number of one operand, where it is of the kind that is listed
 abbrev own : Bool → Bool → ℕ → List ℕ
@@ -65,6 +65,45 @@ line-all a es j h =
 
 pub line-length : (a : ℕ → Bool) (es : Trees) → length (line_of a es) ≡ count es
 line-length a es = length-append (numbers a false 0 es) (numbers a true 0 es) ∙ numbers_length a 0 es
+
+numbers_from : (a : ℕ → Bool) (b : Bool) (n : ℕ) (es : Trees) (j : ℕ) → IsIn j (numbers a b n es) → n ≤ j
+numbers_from a b n none j i = absurd i
+numbers_from a b n (more e es) j i =
+    ⊎_elim (λ h. let q = own_in (is_simple a e) b n j h in omega arith) (λ h. let q = numbers_from a b (suc n) es j h in omega arith)
+    (in-either j (own (is_simple a e) b n) _ i)
+
+own_apart : (c b : Bool) (n : ℕ) → IsApart (own c b n)
+own_apart true true n = (λ i. absurd i, tt)
+own_apart true false n = tt
+own_apart false true n = tt
+own_apart false false n = (λ i. absurd i, tt)
+
+own_kinds : (c : Bool) (n j : ℕ) → IsIn j (own c false n) → IsIn j (own c true n) → ⊥
+own_kinds true n j i k = absurd i
+own_kinds false n j i k = absurd k
+
+numbers_apart : (a : ℕ → Bool) (b : Bool) (n : ℕ) (es : Trees) → IsApart (numbers a b n es)
+numbers_apart a b n none = tt
+numbers_apart a b n (more e es) =
+    apart-append (own (is_simple a e) b n) (numbers a b (suc n) es) (own_apart (is_simple a e) b n) (numbers_apart a b (suc n) es)
+    (λ j i k. let q = own_in (is_simple a e) b n j i in let r = numbers_from a b (suc n) es j k in absurd (omega arith))
+
+numbers_kinds : (a : ℕ → Bool) (n : ℕ) (es : Trees) (j : ℕ) → IsIn j (numbers a false n es) → IsIn j (numbers a true n es) → ⊥
+numbers_kinds a n none j i k = absurd i
+numbers_kinds a n (more e es) j i k =
+    ⊎_elim
+    (λ g. ⊎_elim (λ h. own_kinds (is_simple a e) n j g h)
+    (λ h. let q = own_in (is_simple a e) false n j g in let r = numbers_from a true (suc n) es j h in absurd (omega arith))
+    (in-either j (own (is_simple a e) true n) _ k))
+    (λ g. ⊎_elim (λ h. let q = own_in (is_simple a e) true n j h in let r = numbers_from a false (suc n) es j g in absurd (omega arith))
+    (λ h. numbers_kinds a (suc n) es j g h)
+    (in-either j (own (is_simple a e) true n) _ k))
+    (in-either j (own (is_simple a e) false n) _ i)
+
+pub line-apart : (a : ℕ → Bool) (es : Trees) → IsApart (line_of a es)
+line-apart a es =
+    apart-append (numbers a false 0 es) (numbers a true 0 es) (numbers_apart a false 0 es) (numbers_apart a true 0 es)
+    (numbers_kinds a 0 es)
 
 pub tree-within : (es : Trees) (j : ℕ) → j < count es → (e : Tree) × (tree_at es j ≡ Some e)
 tree-within none j h = absurd (omega arith)

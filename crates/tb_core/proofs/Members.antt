@@ -1,7 +1,7 @@
 -- Elements of lists that are joined, and tests of them.
-use Rattle.std.proofs.Common.{◌≡◌, refl, sym, ap, ◌∙◌, subst, ℕ, ◌⊎◌, inl, inr, ⊎_elim, Bool, true, false, cond, not, ◌==◌, ◌||◌, List, [], ◌∷◌, ◌++◌, eqb-true, eq-eqb}
+use Rattle.std.proofs.Common.{◌≡◌, refl, sym, ap, ◌∙◌, subst, ℕ, ◌⊎◌, inl, inr, ⊎_elim, Bool, true, false, cond, not, ◌==◌, ◌||◌, List, [], ◌∷◌, ◌++◌, length, length-append, ◌≤◌, arith, eqb-true, eq-eqb}
 use Rattle.std.proofs.lemmas.Bool.{or_cases}
-use Rattle.tb_semantics.specs.Graph.{IsIn}
+use Rattle.tb_semantics.specs.Graph.{IsIn, IsApart}
 use Rattle.tb_core.specs.FreeVariables.{is_in, without}
 
 pub in-left : {X : Type 0} (x : X) (xs ys : List X) → IsIn x xs → IsIn x (xs ++ ys)
@@ -51,3 +51,30 @@ without-sub xs (z ∷ ys) y i =
       | false ↦ λ j. ⊎_elim inl (λ k. inr (without-sub xs ys y k)) j
     ])
     i
+
+pub apart-append : (xs ys : List ℕ) → IsApart xs → IsApart ys → ((x : ℕ) → IsIn x xs → IsIn x ys → ⊥) → IsApart (xs ++ ys)
+apart-append [] ys h k d = k
+apart-append (x ∷ xs) ys h k d = (
+  λ i. ⊎_elim h.0 (d x (inl refl)) (in-either x xs ys i),
+  apart-append xs ys h.1 k (λ y i. d y (inr i)),
+)
+
+in_split : {X : Type 0} (x : X) (ys : List X) → IsIn x ys → (fs : List X) × (bs : List X) × (ys ≡ fs ++ x ∷ bs)
+in_split x [] i = absurd i
+in_split x (y ∷ ys) (inl e) = ([], ys, ap (λ z. z ∷ ys) e)
+in_split x (y ∷ ys) (inr i) = let r = in_split x ys i in (y ∷ r.0, r.1, ap (λ zs. y ∷ zs) r.2)
+
+-- elements that are apart are no more than the list that has them all
+pub no-longer : (xs ys : List ℕ) → IsApart xs → ((x : ℕ) → IsIn x xs → IsIn x ys) → length xs ≤ length ys
+no-longer [] ys h k = omega arith
+no-longer (x ∷ xs) ys h k =
+    let r = in_split x ys (k x (inl refl)) in
+    let le = no-longer xs (r.0 ++ r.1) h.1 (λ y i. other y i (k y (inr i)) r.0 r.1 r.2) in
+    let a = length-append r.0 r.1 in let b = length-append r.0 (x ∷ r.1) in
+    let c : length ys ≡ length (r.0 ++ x ∷ r.1) = ap length r.2 in omega arith
+  where
+    other : (y : ℕ) → IsIn y xs → IsIn y ys → (fs bs : List ℕ) → ys ≡ fs ++ x ∷ bs → IsIn y (fs ++ bs)
+    other y i j fs bs e =
+        ⊎_elim (in-left y fs bs)
+        (λ g. ⊎_elim (λ q. absurd (h.0 (subst (λ z. IsIn z xs) (sym q) i))) (in-right y fs bs) g)
+        (in-either y fs (x ∷ bs) (subst (IsIn y) e j))

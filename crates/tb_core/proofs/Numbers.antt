@@ -98,33 +98,33 @@ every_in P (y ∷ xs) x e (inl q) = subst P q e.0
 every_in P (y ∷ xs) x e (inr i) = every_in P xs x e.1 i
 
 -- those inside a lambda expression have greater numbers
-greater_at : (ls : List LambdaTree) (first k : ℕ) (l : LambdaTree) → InnerAreGreater first ls → slice_get ls k ≡ Some l → (m : ℕ) → IsIn m (inner l.body) → first + k < m
-greater_at [] first k l h e m i = cc
-greater_at (n ∷ ls) first zero l h e m i =
+pub greater-at : (ls : List LambdaTree) (first k : ℕ) (l : LambdaTree) → InnerAreGreater first ls → slice_get ls k ≡ Some l → (m : ℕ) → IsIn m (inner l.body) → first + k < m
+greater-at [] first k l h e m i = cc
+greater-at (n ∷ ls) first zero l h e m i =
     let j = every_in (λ m. first < m) (inner n.body) m h.0 (subst (λ t. IsIn m (inner t.body)) (sym (same_Some n l e)) i) in
     omega arith
-greater_at (n ∷ ls) first (suc k) l h e m i = let j = greater_at ls (suc first) k l h.1 e m i in omega arith
+greater-at (n ∷ ls) first (suc k) l h e m i = let j = greater-at ls (suc first) k l h.1 e m i in omega arith
 
 -- a number past the first is looked for among the others
-past_first : {X : Type 0} (first n : ℕ) (x y : X) → first < n → cond (first == n) x y ≡ y
-past_first first n x y h = ap (λ b. cond b x y) (ne_eqb first n (λ e. absurd (omega arith)))
+pub past-first : {X : Type 0} (first n : ℕ) (x y : X) → first < n → cond (first == n) x y ≡ y
+past-first first n x y h = ap (λ b. cond b x y) (ne_eqb first n (λ e. absurd (omega arith)))
 
-at_first : {X : Type 0} (first n : ℕ) (x y : X) → first ≡ n → cond (first == n) x y ≡ x
-at_first first n x y h = ap (λ b. cond b x y) (eq-eqb first n h)
+pub at-first : {X : Type 0} (first n : ℕ) (x y : X) → first ≡ n → cond (first == n) x y ≡ x
+at-first first n x y h = ap (λ b. cond b x y) (eq-eqb first n h)
 
 free_at : (ms : List LambdaTree) (first k n : ℕ) (l : LambdaTree) → n ≡ first + k → InnerAreGreater first ms → slice_get ms k ≡ Some l → lambdas_free ms first n ≡ lambda_free (lambdas_free ms first) l
 free_at [] first k n l q h e = cc
 free_at (m ∷ ms) first zero n l q h e =
     let t : m ≡ l = same_Some m l e in
-    at_first first n _ _ (omega arith)
+    at-first first n _ _ (omega arith)
     ∙ ap (λ v. lambda_free (lambdas_free ms (suc first)) v) t
     ∙ ap (without (parameters l)) (free_same (lambdas_free ms (suc first)) (lambdas_free (m ∷ ms) first) l.body
-    (λ v i. let j = greater_at (m ∷ ms) first zero l h e v i in sym (past_first first v _ _ (omega arith))))
+    (λ v i. let j = greater-at (m ∷ ms) first zero l h e v i in sym (past-first first v _ _ (omega arith))))
 free_at (m ∷ ms) first (suc k) n l q h e =
-    past_first first n _ _ (omega arith)
+    past-first first n _ _ (omega arith)
     ∙ free_at ms (suc first) k n l (omega arith) h.1 e
     ∙ ap (without (parameters l)) (free_same (lambdas_free ms (suc first)) (lambdas_free (m ∷ ms) first) l.body
-    (λ v i. let j = greater_at (m ∷ ms) first (suc k) l h e v i in sym (past_first first v _ _ (omega arith))))
+    (λ v i. let j = greater-at (m ∷ ms) first (suc k) l h e v i in sym (past-first first v _ _ (omega arith))))
 
 -- the free variables of a lambda expression are those of its body but its parameters
 pub free-of-lambda : (p : ProgramTree) (n : ℕ) (l : LambdaTree) → InnerAreGreater 0 p.lambdas → slice_get p.lambdas n ≡ Some l → inner_free p n ≡ lambda_free (inner_free p) l
@@ -134,15 +134,15 @@ lines_at : (a : ℕ → Bool) (ms : List LambdaTree) (first k n : ℕ) (l : Lamb
 lines_at a [] first k n l q h e = cc
 lines_at a (m ∷ ms) first zero n l q h e =
     let t : m ≡ l = same_Some m l e in
-    at_first first n _ _ (omega arith)
+    at-first first n _ _ (omega arith)
     ∙ ap (λ v. lines a (lambdas_lines a ms (suc first)) v.body) t
     ∙ lines_same a (lambdas_lines a ms (suc first)) (lambdas_lines a (m ∷ ms) first) l.body
-    (λ v i. let j = greater_at (m ∷ ms) first zero l h e v i in sym (past_first first v _ _ (omega arith)))
+    (λ v i. let j = greater-at (m ∷ ms) first zero l h e v i in sym (past-first first v _ _ (omega arith)))
 lines_at a (m ∷ ms) first (suc k) n l q h e =
-    past_first first n _ _ (omega arith)
+    past-first first n _ _ (omega arith)
     ∙ lines_at a ms (suc first) k n l (omega arith) h.1 e
     ∙ lines_same a (lambdas_lines a ms (suc first)) (lambdas_lines a (m ∷ ms) first) l.body
-    (λ v i. let j = greater_at (m ∷ ms) first (suc k) l h e v i in sym (past_first first v _ _ (omega arith)))
+    (λ v i. let j = greater-at (m ∷ ms) first (suc k) l h e v i in sym (past-first first v _ _ (omega arith)))
 
 -- the lines of a lambda expression that stands in an expression are among those of the expression
 module _ (a : ℕ → Bool) (f : ℕ → List Line) (m : ℕ) (n : Line) (i : IsIn n (f m)) where
@@ -185,12 +185,12 @@ module _ (a : ℕ → Bool) (f : ℕ → List Line) (m : ℕ) (n : Line) (i : Is
         ⊎_elim (λ h. in-left n (lines a f e) _ (standing_lines e h)) (λ h. in-right n (lines a f e) _ (standing_all es h)) (in-either m (inner e) _ j)
 
 -- the lambda expression in whose body another stands
-around : (ls : List LambdaTree) (m : ℕ) → IsIn m (inner_of_lambdas ls) → (k : ℕ) × (l : LambdaTree) × (slice_get ls k ≡ Some l) × IsIn m (inner l.body)
+pub around : (ls : List LambdaTree) (m : ℕ) → IsIn m (inner_of_lambdas ls) → (k : ℕ) × (l : LambdaTree) × (slice_get ls k ≡ Some l) × IsIn m (inner l.body)
 around [] m i = absurd i
 around (l ∷ ls) m i =
     ⊎_elim (λ h. (0, l, refl, h)) (λ h. let r = around ls m h in (suc r.0, r.1, r.2, r.3)) (in-either m (inner l.body) _ i)
 
-within : {X : Type 0} (xs : List X) (k : ℕ) (x : X) → slice_get xs k ≡ Some x → k < length xs
+pub within : {X : Type 0} (xs : List X) (k : ℕ) (x : X) → slice_get xs k ≡ Some x → k < length xs
 within [] k x e = cc
 within (y ∷ xs) zero x e = omega arith
 within (y ∷ xs) (suc k) x e = let h = within xs k x e in omega arith
@@ -198,7 +198,7 @@ within (y ∷ xs) (suc k) x e = let h = within xs k x e in omega arith
 -- the line of a site, where no other line has it
 line_found : (ls : List Line) (n : Line) → IsApart (map (λ (l : Line). l.site) ls) → IsIn n ls → line_at ls n.site ≡ n.order
 line_found [] n h i = absurd i
-line_found (l ∷ ls) n h (inl e) = at_first l.site n.site _ _ (ap (λ (k : Line). k.site) e) ∙ ap (λ (k : Line). k.order) e
+line_found (l ∷ ls) n h (inl e) = at-first l.site n.site _ _ (ap (λ (k : Line). k.site) e) ∙ ap (λ (k : Line). k.order) e
 line_found (l ∷ ls) n h (inr i) =
     ap (λ b. cond b l.order (line_at ls n.site)) (ne_eqb l.site n.site (λ e. h.0 (mapped_in ls n l.site (sym e) i)))
     ∙ line_found ls n h.1 i
@@ -219,7 +219,7 @@ lambda_lines p r (suc fuel) m l h e n i =
     (λ j. standing_all (is_assigned p) (by_number p) m n i p.forms j)
     (λ j.
     let o = around p.lambdas m j in
-    let g = greater_at p.lambdas 0 o.0 o.1 r.inner_greater o.2 m o.3 in
+    let g = greater-at p.lambdas 0 o.0 o.1 r.inner_greater o.2 m o.3 in
     let eq = lines_at (is_assigned p) p.lambdas 0 o.0 o.0 o.1 (omega arith) r.inner_greater o.2 in
     lambda_lines p r fuel o.0 o.1 (omega arith) o.2 n (subst (IsIn n) (sym eq) (standing_lines (is_assigned p) (by_number p) m n i (o.1).body o.3)))
     (in-either m (inner_all p.forms) _ (in-tested (standing p) m (r.lambdas_at_least_once m (within p.lambdas m l e))))

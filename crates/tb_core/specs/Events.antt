@@ -55,3 +55,9 @@ abbrev pub IsNotLost : State → Type 0
 IsNotLost (Running c es) = Unit {0}
 IsNotLost (Stopped c es) = Unit {0}
 IsNotLost (Lost c es) = ⊥
+
+-- a run has stopped, with End or Fail
+abbrev pub HasStopped : State → Type 0
+HasStopped (Running c es) = ⊥
+HasStopped (Stopped c es) = Unit {0}
+HasStopped (Lost c es) = ⊥

@@ -1,9 +1,11 @@
 -- The limits of the core language, and the first offence against them in written order (this project's own).
-use Rattle.std.specs.Prelude.{ℕ, suc, ◌+◌, ◌*◌, ◌≤◌, max, nat_lt, ◌||◌, cond, ◌==◌, List, [], ◌∷◌, ◌++◌, length, slice_get, Option, Some, None, Result, Ok, Err}
+use Rattle.std.specs.Prelude.{ℕ, suc, ◌+◌, ◌*◌, ◌<◌, ◌≤◌, max, nat_lt, ◌||◌, cond, ◌==◌, List, [], ◌∷◌, ◌++◌, length, slice_get, Option, Some, None, Result, Ok, Err}
 use Rattle.tb_prim.specs.declared.place.Place.{Place}
+use Rattle.tb_semantics.specs.Graph.{IsIn, IsApart}
 use Rattle.tb_core.specs.declared.limits.CoreRefusal.{CoreRefusal}
 use Rattle.tb_core.specs.declared.limits.Totals.{Totals}
 use Rattle.tb_core.specs.Tree.{Tree, Node, Form, Quote, Local, Global, Lambda, If, SetLocal, SetGlobal, DefGlobal, Let, Letrec, Seq, Call, PrimUse, Apply, Trees, none, more, count, LambdaTree, ProgramTree, parameters}
+use Rattle.tb_core.specs.OperandOrder.{Line}
 use Rattle.tb_core.specs.Width.{nodes}
 
 -- what a limit is set on, with its place: the operands of a call or the parameters of a lambda expression, the
@@ -113,3 +115,17 @@ IsSmall t = (t.squares ≤ 1048576) × (t.widest ≤ 1000)
 -- the first offence of a program, or the totals of its widths
 abbrev pub judge_program : ProgramTree → Result Totals CoreRefusal
 judge_program p = judge (Ok no_widths) (program_measures p)
+
+-- what is within the limits: the operands of a call, and the parameters of a lambda expression
+abbrev pub FewOperands : Form → Type 0
+FewOperands (Call f es) = count es ≤ 12
+FewOperands _ = Unit {0}
+
+abbrev pub FewParameters : LambdaTree → Type 0
+FewParameters l = length (parameters l) ≤ 12
+
+-- a line of an order that has the numbers of so many operands, each once: of at most 1,000, since a body is as wide
+pub record IsShort (line : Line) : Type 0 where
+  pub few : length line.order ≤ 1000
+  pub below : (i : ℕ) → IsIn i line.order → i < length line.order
+  pub apart : IsApart line.order

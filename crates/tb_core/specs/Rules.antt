@@ -4,7 +4,7 @@ use Rattle.tb_prim.specs.declared.constant.Const.{Const}
 use Rattle.tb_prim.specs.declared.constant.Static.{Static}
 use Rattle.tb_prim.specs.Primitives.{arity_of}
 use Rattle.tb_semantics.specs.Graph.{IsApart}
-use Rattle.tb_core.specs.Tree.{Tree, Node, Form, Quote, Local, Global, Lambda, If, SetLocal, SetGlobal, DefGlobal, Let, Letrec, Seq, Call, PrimUse, Apply, Trees, none, more, count, LambdaTree, ProgramTree, parameters}
+use Rattle.tb_core.specs.Tree.{Tree, Node, Form, Quote, Local, Global, Lambda, If, SetLocal, SetGlobal, DefGlobal, Let, Letrec, Seq, Call, PrimUse, Apply, Trees, none, more, count, LambdaTree, ProgramTree}
 use Rattle.tb_core.specs.FreeVariables.{is_in, is_assigned, free_all, inner_free}
 use Rattle.tb_core.specs.OperandOrder.{Line, order_of}
 use Rattle.tb_prim.specs.Fixnums.{is_fixnum}

@@ -1,20 +1,22 @@
-ghost use Rattle.std.specs.Prelude.{◌≡◌, ◌≤◌, ℕ, ◌+◌, ◌++◌, [], List, Option, Some, None, Bool, true, false, IsTrue, slice_get};
+ghost use Rattle.std.specs.Prelude.{◌≡◌, ◌≤◌, ℕ, IsOk, length, ◌+◌, ◌++◌, [], List, Option, Some, None, Bool, true, false, IsTrue, slice_get};
 ghost use Rattle.tb_prim.specs.declared.event.Event.{Event};
 ghost use Rattle.tb_prim.specs.declared.primitive.Primitive.{Primitive};
 ghost use Rattle.tb_semantics.specs.Graph.{IsApart, ListsReachable, sum_of};
 ghost use Rattle.tb_semantics.specs.Runs.{EmitsInOrder, IsPrefix, after};
 ghost use Rattle.tb_core.specs.Effects.{effect_of};
-ghost use Rattle.tb_core.specs.Events.{ComesToCall, EndsLast, IsNotLost};
+ghost use Rattle.tb_core.specs.Events.{ComesToCall, EndsLast, HasStopped, IsNotLost};
 ghost use Rattle.tb_core.specs.FirstUses.{first_of};
 ghost use Rattle.tb_core.specs.FreeVariables.{inner_free, is_in, lambda_free, without};
+ghost use Rattle.tb_core.specs.Limits.{FewOperands, FewParameters, IsShort, judge_program};
 ghost use Rattle.tb_core.specs.Lists.{walked};
 ghost use Rattle.tb_core.specs.OperandOrder.{HasLine, Line, order_of};
 ghost use Rattle.tb_core.specs.Partners.{AlikeEffects, AlikeLists, AlikeValues, AlikeWalks, Partnered, pairs_of};
 ghost use Rattle.tb_core.specs.Reference.{Config, State, Stopped, events_of, reference};
-ghost use Rattle.tb_core.specs.Rules.{Each, EachAll, KeepsRules};
+ghost use Rattle.tb_core.specs.Rules.{Each, EachAll, Every, KeepsRules};
 ghost use Rattle.tb_core.specs.Space.{made, made_of, own_words, size_at, space, store_graph};
 ghost use Rattle.tb_core.specs.Store.{Content, Env, Value, cut, lookup};
-ghost use Rattle.tb_core.specs.Tree.{LambdaTree, ProgramTree};
+ghost use Rattle.tb_core.specs.Tree.{Form, LambdaTree, ProgramTree};
+ghost use Rattle.tb_core.specs.Width.{square_sum, width_of};
 
 /// A run that has stopped stays as it is.
 pub fn stopped_stays()
@@ -89,6 +91,32 @@ pub fn no_run_is_lost()
 /// What was made only grows along a run.
 pub fn made_only_grows()
     ensures law { (p : ProgramTree) (input : List ℕ) (n k : ℕ) → KeepsRules p → made_of (after (reference p (order_of p) input) n) ≤ made_of (after (reference p (order_of p) input) (n + k)) }
+{}
+
+/// In a program without an offence each call has at most 12 operands and each lambda expression at most 12 parameters, a
+/// line of the order has at most 1,000 operands, no body or form is wider than 1,000, and the sum of their squared widths
+/// is at most 1,048,576.
+pub fn limits_are_kept()
+    ensures forms { (p : ProgramTree) → KeepsRules p → IsOk (judge_program p) → EachAll (λ (s : ℕ) (f : Form). FewOperands f) p.forms }
+    ensures bodies { (p : ProgramTree) → KeepsRules p → IsOk (judge_program p) → Every (λ (l : LambdaTree). Each (λ (s : ℕ) (f : Form). FewOperands f) l.body) p.lambdas }
+    ensures parameters { (p : ProgramTree) → KeepsRules p → IsOk (judge_program p) → Every FewParameters p.lambdas }
+    ensures short_lines { (p : ProgramTree) → KeepsRules p → IsOk (judge_program p) → Every IsShort (order_of p) }
+    ensures width { (p : ProgramTree) → IsOk (judge_program p) → width_of p ≤ 1000 }
+    ensures squares { (p : ProgramTree) → IsOk (judge_program p) → square_sum p ≤ 1048576 }
+{}
+
+/// A program has at most 1,000,000 lines in its order, and at most as many lambda expressions.
+pub fn lists_are_few()
+    ensures lines { (p : ProgramTree) → KeepsRules p → length (order_of p) ≤ 1000000 }
+    ensures lambdas { (p : ProgramTree) → KeepsRules p → length p.lambdas ≤ 1000000 }
+{}
+
+/// A run of a program that keeps its rules stops where its events are all in one list: it does not go on for ever without
+/// a further event.
+pub fn all_events_end()
+    ensures law { (p : ProgramTree) (input : List ℕ) (es : List Event) → KeepsRules p →
+        ((n : ℕ) → IsPrefix (events_of (after (reference p (order_of p) input) n)) es) →
+        (n : ℕ) × HasStopped (after (reference p (order_of p) input) n) }
 {}
 
 /// A primitive does the same in two stores whose locations have partners, where what stands at partners is

@@ -123,11 +123,11 @@ parts_even word.Applying ds = apply_even ds
 parts_even word.Later ds = tt
 
 -- what a datum is: a primitive with its operands, and as many values as binders
-abbrev IsGoodBuild : Build → ℕ → Type 0
+abbrev pub IsGoodBuild : Build → ℕ → Type 0
 IsGoodBuild (Using q) n = n ≡ arity_of q
 IsGoodBuild k n = Unit {0}
 
-abbrev IsGood : Expression → Type 0
+abbrev pub IsGood : Expression → Type 0
 IsGood (Wrong r) = Unit {0}
 IsGood (Constantly s) = Unit {0}
 IsGood (Naming e) = HasShapeIn e
@@ -187,7 +187,7 @@ good_named p (Special f) = good_alone p f
 good_named p (Integrated q) = tt
 good_named p (Plain g) = tt
 
-good_expression : (st : State) (c : Context) (d : datum.Tree) → IsGood (expression st c d)
+pub good_expression : (st : State) (c : Context) (d : datum.Tree) → IsGood (expression st c d)
 unfolding expression
 good_expression st c (datum.At p datum.Nil) = tt
 good_expression st c (datum.At p (datum.Truth b)) = tt

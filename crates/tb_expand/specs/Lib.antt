@@ -15,6 +15,8 @@ pub mod Numbers
 pub mod Constants
 pub mod WellShaped
 pub mod Ranges
+pub mod Closed
+pub mod Programs
 pub mod View
 pub mod Examples
 pub mod calls

@@ -1,18 +1,25 @@
 //! Laws of the meaning of data and of texts.
 
-ghost use Rattle.std.specs.Prelude.{◌≡◌, ◌⊎◌, ◌+◌, ◌<◌, ℕ, [], Bool, length};
-ghost use Rattle.tb_core.specs.Rules.{Each, EachAll, Every, IsShaped, StaticsKeep, size_all, size_of_lambdas};
+ghost use Rattle.std.specs.Prelude.{◌≡◌, ◌⊎◌, ◌+◌, ◌<◌, ◌≤◌, ◌^◌, ℕ, [], Bool, length, map, true};
+ghost use Rattle.tb_core.specs.FreeVariables.{free_all, inner_free, is_in};
+ghost use Rattle.tb_semantics.specs.Graph.{IsApart};
+ghost use Rattle.tb_core.specs.OperandOrder.{Line, order_of};
+ghost use Rattle.tb_core.specs.Variables.{variables};
+ghost use Rattle.tb_core.specs.Rules.{Each, EachAll, Every, InnerAreGreater, IsShaped, KeepsRules, standing, StaticsKeep, size_all, size_of_lambdas};
 ghost use Rattle.tb_core.specs.Tree.{Form, LambdaTree};
 ghost use Rattle.tb_expand.specs.Constants.{ConstantIn, HaveShort};
 ghost use Rattle.tb_expand.specs.Numbers.{nodes_of_all, program_of, statics_of_all};
-ghost use Rattle.tb_expand.specs.Ranges.{GlobalIn};
+ghost use Rattle.tb_expand.specs.Ranges.{GlobalIn, IsLong, IsNamed, LambdaIn};
+ghost use Rattle.tb_expand.specs.Closed.{AreClosed, binders_of_all, times};
 ghost use Rattle.tb_expand.specs.WellShaped.{HaveShape};
 ghost use Rattle.tb_expand.specs.Means.{Means, Refuses};
 ghost use Rattle.tb_expand.specs.Refusals.{Refusal};
 ghost use Rattle.tb_expand.specs.declared.context.Context.{Context};
 ghost use Rattle.tb_expand.specs.Scopes.{State};
 ghost use Rattle.tb_expand.specs.Texts.{MeansText, RefusesText};
-ghost use Rattle.tb_expand.specs.Trees.{Node, Nodes};
+ghost use Rattle.tb_expand.specs.Trees.{Node, Nodes, Var, same_var};
+ghost use Rattle.tb_prim.specs.declared.constant.GlobalName.{GlobalName};
+ghost use Rattle.tb_sexp.specs.DatumRules.{AreLawful};
 ghost use Rattle.tb_sexp.specs.Tree as datum;
 
 /// A datum has one meaning or one first refusal in a context, and not both.
@@ -73,4 +80,65 @@ pub fn numbers_of_nodes_are_below()
 pub fn globals_are_in_range()
     ensures forms { (library : Bool) (es : Nodes) → EachAll (λ (s : ℕ) (f : Form). GlobalIn (length (program_of library es).globals) f) (program_of library es).forms }
     ensures lambdas { (library : Bool) (es : Nodes) → Every (λ (l : LambdaTree). Each (λ (s : ℕ) (f : Form). GlobalIn (length (program_of library es).globals) f) l.body) (program_of library es).lambdas }
+{}
+
+/// Each lambda expression of a numbered program stands at one node, and those inside another have greater numbers.
+pub fn lambdas_stand_once()
+    ensures at_most { (library : Bool) (es : Nodes) → HaveShape es → IsApart (standing (program_of library es)) }
+    ensures at_least { (library : Bool) (es : Nodes) → HaveShape es → (l : ℕ) → l < length (program_of library es).lambdas → is_in (standing (program_of library es)) l ≡ true }
+    ensures inner_greater { (library : Bool) (es : Nodes) → InnerAreGreater 0 (program_of library es).lambdas }
+{}
+
+/// The nodes of a numbered program that have an order have different numbers.
+pub fn sites_are_apart()
+    ensures { (library : Bool) (es : Nodes) → HaveShape es → IsApart (map (λ (l : Line). l.site) (order_of (program_of library es))) }
+{}
+
+/// A numbered program of nodes that name only variables of their scopes has no free variables.
+pub fn closed_nodes_have_no_free_variables()
+    ensures { (library : Bool) (es : Nodes) → HaveShape es → AreClosed [] es → free_all (inner_free (program_of library es)) (program_of library es).forms ≡ [] }
+{}
+
+/// Where closed nodes bind each variable once, and few variables, so does the numbered program.
+pub fn numbers_keep_bindings()
+    ensures once { (library : Bool) (es : Nodes) → HaveShape es → ((y : Var) → times (same_var y) (binders_of_all es) ≤ 1) → IsApart (variables (program_of library es)) }
+    ensures small { (library : Bool) (es : Nodes) → HaveShape es → AreClosed [] es → length (binders_of_all es) ≤ 2 ^ 24 → Every (λ (x : ℕ). x < 2 ^ 24) (variables (program_of library es)) }
+{}
+
+/// What a text means has at most 1,000,000 nodes, and binds at most 2^24 variables.
+pub fn texts_mean_few_nodes()
+    ensures nodes { (library : Bool) (ds : datum.Trees) (es : Nodes) → MeansText library ds es → nodes_of_all es ≤ 1000000 }
+    ensures variables { (library : Bool) (ds : datum.Trees) (es : Nodes) → MeansText library ds es → length (binders_of_all es) ≤ 2 ^ 24 }
+{}
+
+/// What a text means names only variables of their scopes, and binds each variable once.
+pub fn texts_mean_closed_nodes()
+    ensures closed { (library : Bool) (ds : datum.Trees) (es : Nodes) → MeansText library ds es → AreClosed [] es }
+    ensures once { (library : Bool) (ds : datum.Trees) (es : Nodes) → MeansText library ds es → (y : Var) → times (same_var y) (binders_of_all es) ≤ 1 }
+{}
+
+/// The lambda expressions that the nodes of a numbered program name are in range.
+pub fn lambdas_are_in_range()
+    ensures forms { (library : Bool) (es : Nodes) → HaveShape es → EachAll (λ (s : ℕ) (f : Form). LambdaIn (length (program_of library es).lambdas) f) (program_of library es).forms }
+    ensures lambdas { (library : Bool) (es : Nodes) → HaveShape es → Every (λ (l : LambdaTree). Each (λ (s : ℕ) (f : Form). LambdaIn (length (program_of library es).lambdas) f) l.body) (program_of library es).lambdas }
+{}
+
+/// The numbered program of a text keeps the rules of a program.
+pub fn numbered_programs_keep_rules()
+    ensures { (library : Bool) (ds : datum.Trees) (es : Nodes) → MeansText library ds es → KeepsRules (program_of library es) }
+{}
+
+/// Each global of a numbered program is one that its nodes name.
+pub fn globals_are_named()
+    ensures { (library : Bool) (es : Nodes) → Every (λ (g : GlobalName). IsNamed library es g) (program_of library es).globals }
+{}
+
+/// The program of a text has at most 1,000,000 globals.
+pub fn texts_name_few_globals()
+    ensures { (library : Bool) (ds : datum.Trees) (es : Nodes) → MeansText library ds es → length (program_of library es).globals ≤ 1000000 }
+{}
+
+/// The names of the globals that a text of lawful data names have 1 to 255 bytes.
+pub fn global_names_are_long()
+    ensures { (library : Bool) (ds : datum.Trees) (es : Nodes) → AreLawful ds → MeansText library ds es → Every (λ (g : GlobalName). IsLong g.name) (program_of library es).globals }
 {}

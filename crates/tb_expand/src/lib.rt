@@ -15,6 +15,7 @@ mod name;
 mod node;
 mod numbers;
 mod outside;
+mod program;
 mod queue;
 mod refusal;
 mod scan;
@@ -34,11 +35,15 @@ pub use examples::{worked_numbers, worked_refusals, worked_texts};
 pub use expression::{Build, Expression, Head, read_expression, read_head};
 pub use form::Form;
 pub use laws::{
-    constants_are_in_range, constants_are_short, globals_are_in_range, numbers_keep_nodes,
+    closed_nodes_have_no_free_variables, constants_are_in_range, constants_are_short,
+    global_names_are_long, globals_are_in_range, globals_are_named, lambdas_are_in_range,
+    lambdas_stand_once, numbered_programs_keep_rules, numbers_keep_bindings, numbers_keep_nodes,
     numbers_keep_shapes, numbers_of_nodes_are_below, one_answer_a_datum, one_answer_a_text,
-    static_objects_keep_rules, texts_mean_shaped_nodes,
+    sites_are_apart, static_objects_keep_rules, texts_mean_closed_nodes, texts_mean_few_nodes,
+    texts_mean_shaped_nodes, texts_name_few_globals,
 };
 pub use name::{Name, Variable};
+pub use program::expand;
 pub use refusal::ExpandRefusal;
 pub use scan::{Found, scan_items};
 pub use shapes::{

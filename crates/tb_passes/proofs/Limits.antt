@@ -15,6 +15,7 @@ node-more small large p e le h = record {
   shaped = h.shaped;
   marks_are_operands = h.marks_are_operands;
   reads_cells = h.reads_cells;
+  cells_are_operands = h.cells_are_operands;
 }
 
 pub rules-more : (small large : ℕ) (p : ProgramTree) → small ≤ large → KeepsRules small p → KeepsRules large p

@@ -3,6 +3,7 @@
 
 mod bytes;
 mod constant;
+mod copies;
 mod event;
 mod fixnum;
 mod names;
@@ -13,6 +14,7 @@ mod row;
 
 pub use bytes::Bytes;
 pub use constant::{Const, ConstRow, GlobalName, NameRow, Static, StaticRow};
+pub use copies::{copy_names, copy_statics};
 pub use event::{Cause, Event, Stop, Taken};
 pub use fixnum::{GREATEST_FIXNUM, LEAST_FIXNUM, is_fixnum};
 pub use names::prim_of;

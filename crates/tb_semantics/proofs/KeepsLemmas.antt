@@ -1,8 +1,8 @@
 -- Keeping composes, and moments of one run with equally many events have the same events.
-use Rattle.std.proofs.Common.{◌≡◌, ◌+◌, ◌-◌, ◌≤◌, ◌⊎◌, ℕ, false, List, [], ◌∷◌, ◌++◌, IsTrue, length, inl, inr, ⊎_elim, refl, sym, ap, ◌∙◌, subst, arith, append-nil, length-append}
+use Rattle.std.proofs.Common.{◌≡◌, ◌+◌, ◌-◌, ◌≤◌, ℕ, false, List, [], ◌∷◌, ◌++◌, IsTrue, length, inl, inr, ⊎_elim, refl, sym, ap, ◌∙◌, subst, arith, append-nil, length-append}
 use Rattle.tb_semantics.specs.Runs.{Machine, EmitsInOrder, IsPrefix, after}
-use Rattle.tb_semantics.specs.Keeps.{Shape, Measured, Fits, Keeps, IsInWindow, IsSameWindow, IsNeverFull}
-use Rattle.tb_semantics.proofs.RunLaws.{prefix-after}
+use Rattle.tb_semantics.specs.Keeps.{Shape, Measured, Fits, Keeps, IsInWindow, IsSameWindow, IsNeverFull, IsStillWhenFull, emitted_at}
+use Rattle.tb_semantics.proofs.RunLaws.{after-stays, prefix-after, prefix_refl}
 use Rattle.tb_semantics.proofs.SameEnd.{either_le}
 
 pub fits_trans : (d e : ℕ) (a b c : Shape) → Fits d a b → Fits e b c → Fits (d + e) a c
@@ -62,3 +62,68 @@ same_number-same_window m o j n k a b =
     (λ le. later_same m o n k le (a ∙ sym b))
     (λ le. sym (later_same m o k n le (b ∙ sym a)))
     (either_le n k)
+
+-- a machine that stands still has emitted all that what it keeps ever emits, unless it is full
+module _ {E A B : Type 0} (a : Measured E A) (b : Measured E B) (d : ℕ) (order : EmitsInOrder a.machine)
+    (source : EmitsInOrder b.machine) (still : IsStillWhenFull a) (keeps : Keeps a b d) (n : ℕ)
+    (stands : a.machine.step (after a.machine n) ≡ after a.machine n) (room : a.is_full (after a.machine n) ≡ false) where
+  later : (k : ℕ) → n ≤ k → after a.machine k ≡ after a.machine n
+  later k le =
+      let e : n + (k - n) ≡ k = omega arith in
+      sym (ap (after a.machine) e) ∙ after-stays a.machine n (k - n) (after a.machine n) refl stands
+
+  -- a state that is not left stands also at moments after it
+  earlier : (k : ℕ) → k ≤ n → IsTrue (a.is_full (after a.machine k)) → ⊥
+  earlier k le full =
+      let e : k + (n - k) ≡ n = omega arith in
+      let same : after a.machine n ≡ after a.machine k =
+      sym (ap (after a.machine) e) ∙ after-stays a.machine k (n - k) (after a.machine k) refl (still _ full) in
+      let f : IsTrue (a.is_full (after a.machine n)) = subst (λ s. IsTrue (a.is_full s)) (sym same) full in
+      cc
+
+  never_full : (k : ℕ) → IsTrue (a.is_full (after a.machine k)) → ⊥
+  never_full k full =
+      ⊎_elim (λ le. earlier k le full)
+      (λ ge. let f : IsTrue (a.is_full (after a.machine n)) = subst (λ s. IsTrue (a.is_full s)) (later k ge) full in cc)
+      (either_le k n)
+
+  no_more : (k : ℕ) → length (a.machine.events (after a.machine k)) ≤ length (a.machine.events (after a.machine n))
+  no_more k =
+      ⊎_elim
+      (λ le.
+      let e : k + (n - k) ≡ n = omega arith in
+      let p = prefix-after a.machine order k (n - k) in
+      let l = length-append (a.machine.events (after a.machine k)) p.rest in
+      let w : length (a.machine.events (after a.machine k) ++ p.rest) ≡ length (a.machine.events (after a.machine n)) =
+      ap length (p.whole ∙ ap (λ j. a.machine.events (after a.machine j)) e) in
+      omega arith)
+      (λ ge. let e : length (a.machine.events (after a.machine k)) ≡ length (a.machine.events (after a.machine n)) =
+      ap (λ s. length (a.machine.events s)) (later k ge) in omega arith)
+      (either_le k n)
+
+  reached : (m : ℕ) → emitted_at b m ≤ emitted_at a n
+  reached m =
+      let c = keeps.comes m in
+      ⊎_elim (λ full. absurd (never_full c.0 full)) (λ le. let h = no_more c.0 in omega arith) c.1
+
+  pub still-behind : (m : ℕ) → IsPrefix (b.machine.events (after b.machine m)) (a.machine.events (after a.machine n))
+  still-behind m =
+      let w = keeps.windows n in
+      let r = reached m in
+      subst (IsPrefix (b.machine.events (after b.machine m))) (sym w.1)
+      (⊎_elim
+      (λ le. let e : m + (w.0 - m) ≡ w.0 = omega arith in
+      subst (λ j. IsPrefix (b.machine.events (after b.machine m)) (b.machine.events (after b.machine j))) e
+      (prefix-after b.machine source m (w.0 - m)))
+      (λ ge.
+      let e : w.0 + (m - w.0) ≡ m = omega arith in
+      let p : IsPrefix (b.machine.events (after b.machine w.0)) (b.machine.events (after b.machine m)) =
+      subst (λ j. IsPrefix (b.machine.events (after b.machine w.0)) (b.machine.events (after b.machine j))) e
+      (prefix-after b.machine source w.0 (m - w.0)) in
+      let q : length (a.machine.events (after a.machine n)) ≡ length (b.machine.events (after b.machine w.0)) = ap length w.1 in
+      let l = length-append (b.machine.events (after b.machine w.0)) p.rest in
+      let pw : length (b.machine.events (after b.machine w.0) ++ p.rest) ≡ length (b.machine.events (after b.machine m)) = ap length p.whole in
+      let s : b.machine.events (after b.machine w.0) ≡ b.machine.events (after b.machine m) =
+      prefix_whole (b.machine.events (after b.machine w.0)) (b.machine.events (after b.machine m)) p (omega arith) in
+      subst (IsPrefix (b.machine.events (after b.machine m))) (sym s) (prefix_refl (b.machine.events (after b.machine m))))
+      (either_le m w.0))

@@ -1,5 +1,5 @@
 -- Elements of lists that grow at their ends or are written, and membership.
-use Rattle.std.proofs.Common.{◌≡◌, ◌+◌, ◌<◌, ◌⊎◌, ℕ, zero, suc, List, [], ◌∷◌, ◌++◌, Option, None, Some, length, slice_get, slice_set, refl, ap, inl, inr, ⊎_elim, arith}
+use Rattle.std.proofs.Common.{◌≡◌, ◌<◌, ◌⊎◌, ℕ, zero, suc, List, [], ◌∷◌, ◌++◌, Some, length, slice_get, slice_set, refl, ap, inl, inr, ⊎_elim, arith}
 use Rattle.tb_semantics.specs.Graph.{IsIn}
 
 -- an element stays where it is when others come behind it

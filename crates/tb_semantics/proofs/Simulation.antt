@@ -1,5 +1,5 @@
 -- From single steps to runs: a relation of states that each step keeps gives keeping.
-use Rattle.std.proofs.Common.{◌≡◌, ◌+◌, ◌-◌, ◌<◌, ◌≤◌, ◌⊎◌, ℕ, zero, suc, List, IsTrue, length, inl, inr, ⊎_elim, sym, ap, ◌∙◌, subst, arith}
+use Rattle.std.proofs.Common.{◌≡◌, ◌+◌, ◌-◌, ◌<◌, ◌≤◌, ◌⊎◌, ℕ, zero, suc, IsTrue, length, inl, inr, ⊎_elim, sym, ap, subst, arith}
 use Rattle.tb_semantics.specs.Runs.{Machine, EmitsInOrder, run, after}
 use Rattle.tb_semantics.specs.Keeps.{Measured, Fits, Keeps}
 use Rattle.tb_semantics.proofs.RunLaws.{run-add, prefix-after}

@@ -54,3 +54,7 @@ pub record Keeps {E T S : Type 0} (target : Measured E T) (source : Measured E S
 -- no run of the machine stops since its memory is full
 abbrev pub IsNeverFull : {E S : Type 0} → Measured E S → Type 0
 IsNeverFull m = (n : ℕ) → m.is_full (after m.machine n) ≡ false
+
+-- a machine that has stopped since its memory is full stays as it is
+abbrev pub IsStillWhenFull : {E S : Type 0} → Measured E S → Type 0
+IsStillWhenFull {E} {S} m = (s : S) → IsTrue (m.is_full s) → m.machine.step s ≡ s

@@ -1,3 +1,10 @@
 pub mod Range
 pub mod Table
 pub mod Word
+pub mod WordBits
+pub mod WordOps
+pub mod Grouped
+pub mod GroupedOf
+pub mod SparcStep
+pub mod SparcEvents
+pub mod Examples

@@ -1,13 +1,19 @@
-//! The words of SPARC V8 that compiled code is made of: their instructions, the encoder and the decoder.
+//! The words of SPARC V8 that compiled code is made of: their instructions, the encoder and the decoder; and the
+//! machine that runs them: code with its group starts, and in specs/ what a step does (`SparcStep`).
 //!
 //! The formats and codes are those of The SPARC Architecture Manual, Version 8, chapter 5 and appendix F,
 //! cut to the instructions that the code generator emits.
 #![tactic(auto)]
 
+mod code;
+mod codes;
 mod decoder;
 mod encoder;
+pub mod examples;
 mod instr;
 
+pub use code::{SparcCode, WordRow};
+pub use codes::Codes;
 pub use decoder::decode;
 pub use encoder::encode;
 pub use instr::{AluOp, Operand, SparcInstr};

@@ -6,18 +6,18 @@ use Rattle.tb_core.specs.OperandOrder.{Line}
 use Rattle.tb_core.specs.Rules.{Every}
 use Rattle.tb_ir.specs.AnfMachine.{free_of_atom, free_of_atoms}
 use Rattle.tb_ir.specs.AnfRules as N
-use Rattle.tb_ir.specs.AnfRules.{all_blocks, of_each, operation, operations, standing_at, binders}
+use Rattle.tb_ir.specs.AnfRules.{all_blocks, blocks, of_each, operation, operations, standing_at, binders}
 use Rattle.tb_ir.specs.AnfTree as A
 use Rattle.tb_ir.specs.AnfTree.{Block, Op}
 use Rattle.tb_ir.specs.Rules as K
-use Rattle.tb_ir.specs.Rules.{all_nodes, of_nodes, form_of, times}
+use Rattle.tb_ir.specs.Rules.{all_nodes, nodes, of_nodes, form_of, times}
 use Rattle.tb_ir.specs.Tree.{Tree, Node, Form, Quote, Local, Lambda, NewCell, Let, Letrec, Trees, none, more, ProgramTree}
-use Rattle.tb_ir.specs.TreeMachine.{context_of}
-use Rattle.tb_anf.specs.NormalForm.{size, atom, atoms, value_name, normal_form}
+use Rattle.tb_ir.specs.TreeMachine.{context_of, line_of}
+use Rattle.tb_anf.specs.NormalForm.{AtEnd, block_of, size, atom, atoms, value_name, normal_form}
 use Rattle.tb_anf.proofs.Names.{Any, ProperNode}
 use Rattle.tb_anf.proofs.rules.Agree.{Agrees, IsOther, IsOtherForm, IsPlain, plain-agrees, weigh, simple, simple_all, bound_to}
 use Rattle.tb_anf.proofs.rules.Sums.{IsOwn, own, sum_blocks}
-use Rattle.tb_anf.proofs.rules.Whole.{whole-sum}
+use Rattle.tb_anf.proofs.rules.Whole.{body-sum, whole-sum}
 
 pub times-append : (x : ℕ) (xs ys : List ℕ) → times x (xs ++ ys) ≡ times x xs + times x ys
 times-append x [] ys = omega arith
@@ -198,11 +198,22 @@ module _ (z : ℕ) (small : z < 2 ^ 31) where
       bound_names [] = refl
       bound_names (y ∷ xs) = let h = bound_names xs in omega arith
 
+  binds_agrees : Agrees BindsIt (λ f. times z (K.binders f)) bound_by
+  binds_agrees = plain-agrees BindsIt _ bound_by _ binds_plain
+
+  pub body-binders : (p : ProgramTree) (order : List Line) → Every (ProperNode (context_of p order) Any) (all_nodes p) →
+      (n : ℕ) (e : Tree) → Every (ProperNode (context_of p order) Any) (nodes e) →
+      times z (of_each binders (blocks (block_of (line_of order) n e AtEnd))) ≡ times z (of_nodes K.binders (nodes e))
+  body-binders p order proper n e h =
+      times-blocks z binders (blocks (block_of (line_of order) n e AtEnd))
+      ∙ body-sum BindsIt (λ f. times z (K.binders f)) bound_by (record { bind = λ y op b. refl; close = λ xs ls b. refl }) binds_agrees p order proper n e h
+      ∙ sym (times-nodes z K.binders (nodes e))
+
   pub binders-same : (p : ProgramTree) (order : List Line) → Every (ProperNode (context_of p order) Any) (all_nodes p) →
       times z (of_each binders (all_blocks (normal_form p order))) ≡ times z (of_nodes K.binders (all_nodes p))
   binders-same p order proper =
       times-blocks z binders (all_blocks (normal_form p order))
-      ∙ whole-sum BindsIt (λ f. times z (K.binders f)) bound_by (record { bind = λ y op b. refl; close = λ xs ls b. refl }) (plain-agrees BindsIt _ bound_by _ binds_plain) p order proper
+      ∙ whole-sum BindsIt (λ f. times z (K.binders f)) bound_by (record { bind = λ y op b. refl; close = λ xs ls b. refl }) binds_agrees p order proper
       ∙ sym (times-nodes z K.binders (all_nodes p))
 
 module _ (l : ℕ) where
@@ -238,6 +249,14 @@ module _ (l : ℕ) where
       none_bound : (xs : List ℕ) → 0 ≡ bound_to (λ k. 0) xs
       none_bound [] = refl
       none_bound (y ∷ xs) = let h = none_bound xs in omega arith
+
+  pub body-standing : (p : ProgramTree) (order : List Line) → Every (ProperNode (context_of p order) Any) (all_nodes p) →
+      (n : ℕ) (e : Tree) → Every (ProperNode (context_of p order) Any) (nodes e) →
+      times l (of_each standing_at (blocks (block_of (line_of order) n e AtEnd))) ≡ times l (of_nodes K.standing_at (nodes e))
+  body-standing p order proper n e h =
+      times-blocks l standing_at (blocks (block_of (line_of order) n e AtEnd))
+      ∙ body-sum Stands (λ f. times l (K.standing_at f)) (λ k. 0) (record { bind = λ y op b. refl; close = λ xs ls b. refl }) (plain-agrees Stands _ (λ k. 0) _ stands_plain) p order proper n e h
+      ∙ sym (times-nodes l K.standing_at (nodes e))
 
   pub standing-same : (p : ProgramTree) (order : List Line) → Every (ProperNode (context_of p order) Any) (all_nodes p) →
       times l (of_each standing_at (all_blocks (normal_form p order))) ≡ times l (of_nodes K.standing_at (all_nodes p))

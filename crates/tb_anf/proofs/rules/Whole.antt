@@ -18,15 +18,15 @@ module _ (W : Block → ℕ) (m : Form → ℕ) (t : Option ℕ → ℕ) (local 
   abbrev x : Context
   x = context_of p order
 
-  body_sum : (n : ℕ) (e : Tree) → Every (ProperNode x Any) (nodes e) → total W (block_of (line_of order) n e AtEnd) ≡ weigh m (nodes e)
-  body_sum n e h =
+  pub body-sum : (n : ℕ) (e : Tree) → Every (ProperNode x Any) (nodes e) → total W (block_of (line_of order) n e AtEnd) ≡ weigh m (nodes e)
+  body-sum n e h =
       let a = tree-sum W local x e h n AtEnd in let b = tree-agrees W m t agrees x e h n None in let z = agrees.at_end in omega arith
 
   forms_sum : (n : ℕ) (es : Trees) → Every (ProperNode x Any) (nodes_of es) → sum_blocks W (blocks_of (form_procs (line_of order) n es)) ≡ weigh m (nodes_of es)
   forms_sum n none h = refl
   forms_sum n (more (Node q s f) es) h =
       let e = Node q s f in
-      let a = body_sum n e (every-left _ (nodes e) _ h) in
+      let a = body-sum n e (every-left _ (nodes e) _ h) in
       let b = forms_sum (n + size e) es (every-right _ (nodes e) _ h) in
       let i = sum-append W (blocks (block_of (line_of order) n e AtEnd)) (blocks_of (form_procs (line_of order) (n + size e) es)) in
       let j = weigh-append m (nodes e) (nodes_of es) in omega arith
@@ -35,7 +35,7 @@ module _ (W : Block → ℕ) (m : Form → ℕ) (t : Option ℕ → ℕ) (local 
       sum_blocks W (blocks_of (lambda_procs p (line_of order) l n ms)) ≡ weigh m (nodes_of_lambdas ms)
   lambdas_sum l n [] h = refl
   lambdas_sum l n (k ∷ ms) h =
-      let a = body_sum n k.body (every-left _ (nodes k.body) _ h) in
+      let a = body-sum n k.body (every-left _ (nodes k.body) _ h) in
       let b = lambdas_sum (suc l) (n + size k.body) ms (every-right _ (nodes k.body) _ h) in
       let i = sum-append W (blocks (block_of (line_of order) n k.body AtEnd)) (blocks_of (lambda_procs p (line_of order) (suc l) (n + size k.body) ms)) in
       let j = weigh-append m (nodes k.body) (nodes_of_lambdas ms) in omega arith

@@ -1,9 +1,9 @@
-use Rattle.std.proofs.Common.{◌≡◌, ◌<◌, ◌≤◌, ℕ, List, [], Option, None, Some, Ok, length, map, get_or, slice_get, sym, ap, ◌∙◌}
+use Rattle.std.proofs.Common.{◌≡◌, ◌<◌, ◌≤◌, ℕ, List, [], None, Some, Ok, length, map, get_or, slice_get, sym, ap, ◌∙◌}
 use Rattle.std.specs.Prelude.{option_map}
 use Rattle.std.proofs.lemmas.Option.{slice_get-map, slice_get-get_or, slice_get_past}
 use Rattle.tb_core.specs.declared.program.Lambda.{Lambda}
 use Rattle.tb_core.specs.Limits.{Operands, parameter_measures, judge, judged}
-use Rattle.tb_core.specs.Tree.{LambdaTree, parameters}
+use Rattle.tb_core.specs.Tree.{parameters}
 use Rattle.tb_core.specs.Plain.{view_lambda}
 use Rattle.tb_core.proofs.Judging.{judge_first, judge_none}
 use Rattle.tb_core.proofs.limits.check_parameters.Goals as goal

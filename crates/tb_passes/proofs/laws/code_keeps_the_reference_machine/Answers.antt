@@ -12,7 +12,10 @@ use Rattle.tb_passes.proofs.laws.code_keeps_the_reference_machine.Goals as goal
 -- the three passes compose, slacks adding, since the machines between have no memory that fills
 pub returns : goal.returns
 returns c = record {
-  law = λ p rules anf_rules fits heap input.
+  law = λ p ok heap input.
+      let rules = ok.rules in
+      let anf_rules = c.normal_form_fits.ensures.rules p ok in
+      let fits = c.normal_form_fits.ensures.fits p ok in
       let cells = cells_of p in
       let code = measured_machine (program_code p) heap input in
       let anf = anf_measured (anf_of p) input in

@@ -1,0 +1,4 @@
+pub mod SmallWords
+pub mod SmallEffects
+pub mod Instructions
+pub mod Sizes

@@ -1,0 +1,9 @@
+pub mod StepLaws
+pub mod GroupLaws
+pub mod Operands
+pub mod CellLaws
+pub mod Clearing
+pub mod StepRules
+pub mod Uses
+pub mod RunLaws
+pub mod FetchLaws
