@@ -7,3 +7,8 @@ pub mod Homing
 pub mod Programs
 pub mod Same
 pub mod Whole
+pub mod ItemsOnce
+pub mod Conditions
+pub mod Returned
+pub mod Resolved
+pub mod Refusals

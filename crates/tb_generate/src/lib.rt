@@ -6,6 +6,7 @@ mod blocks;
 mod body;
 mod entries;
 mod free;
+mod generator;
 mod groups;
 mod homes;
 pub mod laws;
@@ -15,3 +16,5 @@ mod program;
 mod put;
 mod waiting;
 mod words;
+
+pub use generator::generate;
