@@ -1,7 +1,6 @@
 -- What lambda expressions capture, by the index of the procs.
-use Rattle.std.proofs.Common.{◌≡◌, sym, ap, ◌∙◌, ℕ, suc, ◌<◌, Bool, true, false, cond, List, length, map, drop, get_or, Option, Some, None}
+use Rattle.std.proofs.Common.{◌≡◌, sym, ap, ◌∙◌, ℕ, suc, ◌<◌, Bool, true, false, cond, List, length, map, drop, get_or, Option, Some}
 use Rattle.std.proofs.Math.Seq.{drop-cons}
-use Rattle.std.proofs.Math.Path.{fun_ext}
 use Rattle.std.proofs.lemmas.Option.{slice_get-get_or}
 use Rattle.tb_ir.specs.declared.anf.AnfProc.{AnfProc}
 use Rattle.tb_ir.specs.AnfMachine.{captured_by, proc_of, is_number}

@@ -1,5 +1,5 @@
 -- The longest of some rows.
-use Rattle.std.proofs.Common.{◌≡◌, ap, ◌∙◌, ℕ, suc, ◌<◌, ◌≤◌, max, min, List, [], length, drop, get_or, drop_of_length-le, arith}
+use Rattle.std.proofs.Common.{◌≡◌, ap, ℕ, suc, ◌<◌, ◌≤◌, max, min, List, length, drop, get_or, drop_of_length-le, arith}
 use Rattle.std.proofs.Math.Seq.{drop-cons}
 use Rattle.tb_live.specs.Live.{pressure_of}
 

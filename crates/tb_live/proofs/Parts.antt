@@ -1,17 +1,17 @@
 -- The rows of blocks by those of their parts.
-use Rattle.std.proofs.Common.{◌≡◌, refl, sym, ap, ◌∙◌, ℕ, List, [], ◌∷◌, ◌++◌, map, length, get_or, ◌<◌, append_assoc, Result, Ok, Err, OnOk}
-use Rattle.std.specs.Prelude.{reverse, slice_get, option_map, Option, Some}
+use Rattle.std.proofs.Common.{◌≡◌, sym, ap, ◌∙◌, ℕ, List, [], ◌∷◌, ◌++◌, map, length, get_or, ◌<◌, append_assoc, Result, Ok, Err, OnOk}
+use Rattle.std.specs.Prelude.{reverse, slice_get, option_map, Some}
 use Rattle.std.proofs.Math.Path.{fun_ext}
 use Rattle.std.proofs.lemmas.List.{reverse-append, reverse-reverse, map-append}
 use Rattle.std.proofs.lemmas.Option.{slice_get-map, slice_get-get_or}
 use Rattle.tb_core.specs.FreeVariables.{without, of_lambdas}
-use Rattle.tb_ir.specs.AnfTree.{Operand, Block, Bind, CloseAll, Tail, Op, Branch}
+use Rattle.tb_ir.specs.AnfTree.{Operand, Block, Bind, CloseAll, Op, Branch}
 use Rattle.tb_ir.specs.AnfMachine.{free_of_atom, free_block, free_op}
-use Rattle.tb_ir.specs.AnfRules.{blocks, blocks_in}
+use Rattle.tb_ir.specs.AnfRules.{blocks}
 use Rattle.tb_ir.specs.declared.anf.AnfProc.{AnfProc}
 use Rattle.tb_ir.specs.AnfPlain.{view_block, view_proc}
 use Rattle.tb_live.specs.Live.{live_row, live_rows, rows_of}
-use Rattle.tb_live.specs.calls.Rows.{back_rows, later_blocks}
+use Rattle.tb_live.specs.calls.Rows.{back_rows}
 use Rattle.tb_live.specs.calls.Sets.{joined}
 use Rattle.tb_live.proofs.Joined.{joined-joined, joined-first, joined-without}
 
@@ -26,8 +26,8 @@ pub group-row : (captured : ℕ → List ℕ) (xs ls : List ℕ) (b : Block) (ks
     ks ≡ joined [] (of_lambdas captured ls) → inside ≡ joined ks later → new ≡ joined [] (without xs inside) → new ≡ live_row captured (CloseAll xs ls b)
 group-row captured xs ls b ks later inside new e f g h =
     let all : inside ≡ joined [] (of_lambdas captured ls ++ free_block captured b) =
-        g ∙ ap (joined ks) e ∙ joined-first ks (free_block captured b) ∙ ap (λ zs. joined zs (free_block captured b)) f
-        ∙ joined-joined [] (of_lambdas captured ls) (free_block captured b) in
+    g ∙ ap (joined ks) e ∙ joined-first ks (free_block captured b) ∙ ap (λ zs. joined zs (free_block captured b)) f
+    ∙ joined-joined [] (of_lambdas captured ls) (free_block captured b) in
     h ∙ ap (λ zs. joined [] (without xs zs)) all ∙ joined-without [] xs (of_lambdas captured ls ++ free_block captured b)
 
 pub branch-row : (captured : ℕ → List ℕ) (a : Operand) (b d : Block) (ks one two new bs ds : List ℕ) → one ≡ joined ks (free_of_atom a) →
@@ -49,16 +49,6 @@ two-rows captured bs ds old mid new e f =
     f ∙ ap (λ rs. rs ++ back_rows captured bs) e ∙ append_assoc old (back_rows captured ds) (back_rows captured bs)
     ∙ ap (λ rs. old ++ rs) (sym (back-append captured bs ds))
 
-pub own-rows : (captured : ℕ → List ℕ) (b : Block) (old mid new : List (List ℕ)) (row : List ℕ) → mid ≡ old ++ back_rows captured (later_blocks b) →
-    row ≡ live_row captured b → new ≡ mid ++ row ∷ [] → new ≡ old ++ back_rows captured (blocks b)
-own-rows captured b old mid new row e f g =
-    two-rows captured (b ∷ []) (later_blocks b) old mid new e (g ∙ ap (λ r. mid ++ r ∷ []) f) ∙ ap (λ bs. old ++ back_rows captured bs) (by_form b)
-  where
-    by_form : (b : Block) → b ∷ later_blocks b ≡ blocks b
-    by_form (Bind x op d) = refl
-    by_form (CloseAll xs ls d) = refl
-    by_form (Tail op) = refl
-
 -- what holds where a call succeeds gives what holds otherwise
 pub on-ok : {X E : Type 0} (P Q : Type 0) (r : Result X E) → (P → Q) → OnOk r P → OnOk r Q
 on-ok P Q (Ok x) h k = h k
@@ -71,7 +61,7 @@ pub proc-rows : (procs : List AnfProc) (i : ℕ) (d : AnfProc) (captured named :
 proc-rows procs i d captured named back rows lt e f g =
     let body = view_block (get_or procs i d).body in
     let found : slice_get (map view_proc procs) i ≡ Some (view_proc (get_or procs i d)) =
-        slice_get-map view_proc procs i ∙ ap (option_map view_proc) (slice_get-get_or procs i d lt) in
+    slice_get-map view_proc procs i ∙ ap (option_map view_proc) (slice_get-get_or procs i d lt) in
     g ∙ ap reverse f ∙ reverse-reverse (map (live_row captured) (blocks body))
     ∙ ap (λ (h : ℕ → List ℕ). live_rows h body) (fun_ext e)
     ∙ ap (rows_of named) (sym found)

@@ -1,10 +1,9 @@
 -- Small bodies, and what their lambda expressions capture.
-use Rattle.std.specs.Prelude.{ℕ, true, List, [], ◌∷◌}
-use Rattle.tb_prim.specs.declared.constant.Const.{Const}
+use Rattle.std.specs.Prelude.{[], ◌∷◌}
 use Rattle.tb_prim.specs.declared.primitive.Primitive.{Primitive}
 use Rattle.tb_core.specs.Examples.{spot}
-use Rattle.tb_ir.specs.AnfTree.{Var, Quote, Block, Bind, CloseAll, Tail, Atom, PrimUse, Close, Call, Branch, AnfTree}
-use Rattle.tb_ir.specs.Examples.{anf, form_proc, proc_at, var}
+use Rattle.tb_ir.specs.AnfTree.{Bind, CloseAll, Tail, Atom, PrimUse, Close, Call, Branch, AnfTree}
+use Rattle.tb_ir.specs.Examples.{anf, proc_at, var}
 
 -- (lambda (x y) (let ((z (+ x y))) (if z (+ y z) x)))
 abbrev pub branching : AnfTree

@@ -1,4 +1,4 @@
-use Rattle.std.proofs.Common.{◌≡◌, ◌∙◌, ◌++◌, ap, sym, ℕ, List, [], map, nat_eq, get_or}
+use Rattle.std.proofs.Common.{◌≡◌, ◌∙◌, ◌++◌, ap, ℕ, List, map, nat_eq, get_or}
 use Rattle.indexmap.specs.IndexMap.{get}
 use Rattle.tb_ir.specs.declared.anf.AnfProc.{AnfProc}
 use Rattle.tb_ir.specs.AnfMachine.{captured_by, proc_of}
