@@ -3,8 +3,8 @@ ghost use Rattle.std.specs.Prelude.{◌≡◌, [], ◌∷◌};
 ghost use Rattle.tb_live.specs.Examples.{branching, capturing, together};
 ghost use Rattle.tb_live.specs.Live.{pressure_of, rows_at};
 
-/// A branch has the rows of its arms behind its own, procedures that are made together use what they capture before they
-/// are bound, and so does one that is made alone.
+/// A branch has the rows of its arms after its own. Where procedures are made, alone or together, what they capture is
+/// in use.
 pub fn worked_rows()
     ensures branching { rows_at branching 0 ≡ (0 ∷ 1 ∷ []) ∷ (2 ∷ 1 ∷ 0 ∷ []) ∷ (1 ∷ 2 ∷ []) ∷ (0 ∷ []) ∷ [] }
     ensures together { rows_at together 0 ≡ (0 ∷ 1 ∷ []) ∷ (2 ∷ 1 ∷ []) ∷ [] }

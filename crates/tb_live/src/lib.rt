@@ -1,5 +1,5 @@
-//! Liveness in A-normal form: the variables that are free from each block of a body on, each once, in the order of their
-//! first use (specs/Live).
+//! Liveness in A-normal form: the variables that are free from each block of a body on, each once, in the order of
+//! their first use (specs/Live).
 #![tactic(auto)]
 
 mod captures;

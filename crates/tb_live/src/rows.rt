@@ -113,8 +113,8 @@ fn put_later(
     }
 }
 
-/// The variables that are free from a block on. Puts the rows of its blocks, the last of them first. Goes no deeper than
-/// `levels` blocks, and answers want of memory at one below.
+/// The variables that are free from a block on. Puts the rows of its blocks, the last of them first. Goes no deeper
+/// than `levels` blocks, and answers want of memory at one below.
 #[cycle(rows)]
 fn put_rows(
     source: Source,

@@ -14,9 +14,10 @@ use tb_prim::{NoMemory, Row};
 /// order of their first use.
 pub type LiveTable = Row<VarRow>;
 
-/// The table of the body of a proc: of each block the variables that are free from there on, what its lambda expressions
-/// capture among them. Want of memory is also the answer where blocks nest deeper than 4,000, one after another and in
-/// branches. The time is in proportion to the length of the body and of the rows, and to the number of procs.
+/// The table of the body of a proc: for each block the variables that are free from there on, what its lambda
+/// expressions capture among them. Want of memory is also the answer where a block stands under more than 3,999
+/// others, after them or in their branches. It goes over each block once, and takes time in proportion to the atoms,
+/// captured variables and rows of the body, and to the number of procs.
 pub fn live(alloc: Global, anf: &Anf, at: u32) -> Result<LiveTable, NoMemory>
     requires { at < length anf.now.procs }
     ensures rows { IfOk result (λ table. table ≡ rows_at (view_anf anf.now) at) }
@@ -52,7 +53,8 @@ fn longest(rows: &[VarRow]) -> u32
     longest
 }
 
-/// The length of the longest row, 0 of none. Takes no memory. Where a row has more than 2^32 - 1 variables it is 2^32 - 1.
+/// The length of the longest row, 0 of none. Takes no memory. Where a row has more than 2^32 - 1 variables it is
+/// 2^32 - 1.
 pub fn pressure(table: &LiveTable) -> u32
     ensures { result ≡ min (pressure_of table.now) (2 ^ 32 - 1) }
 {
