@@ -1,0 +1,8 @@
+use Rattle.std.proofs.Common.{◌≡◌, drop}
+use Rattle.tb_core.specs.FreeVariables.{without}
+use Rattle.tb_live.specs.calls.Sets.{joined}
+use Rattle.tb_live.proofs.uses.add_others.Given as goal
+
+abbrev pub invariant-loop-variable : goal.invariant-loop-variable
+invariant-loop-variable l =
+    joined l.set.keys (without l.initial.bound (drop l.variable-index l.variables)) ≡ joined l.initial.set.keys (without l.initial.bound l.variables)

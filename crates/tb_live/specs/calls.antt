@@ -1,0 +1,3 @@
+pub mod Captures
+pub mod Sets
+pub mod Rows
