@@ -50,7 +50,7 @@ pub fn code_is_short()
     ensures short { (p : AnfTree) → KeepsRules p → Fits p → length (code_of p).code ≤ 8 * square_sum p + 8 }
 {}
 
-/// In every memory and with every input, code that still runs has taken less steps than its events so far and one more,
+/// In every memory and with every input, code that still runs has taken fewer steps than its events so far and one more,
 /// times the instructions of its longest procedure and two more.
 pub fn code_is_quick()
     ensures quick { (p : AnfTree) → KeepsRules p → Fits p → (heap : ℕ) (input : List ℕ) (n : ℕ) (m : Framed) (rest : List ℕ)
