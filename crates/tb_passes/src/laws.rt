@@ -1,5 +1,6 @@
 //! What the passes keep together.
-ghost use Rattle.std.specs.Prelude.{◌≡◌, ◌≤◌, ℕ, List, false};
+ghost use Rattle.std.specs.Prelude.{◌≡◌, ◌+◌, ◌*◌, ◌<◌, ◌≤◌, ℕ, List, false, length};
+ghost use Rattle.tb_prim.specs.declared.event.Event.{Event};
 ghost use Rattle.tb_semantics.specs.Keeps.{Keeps};
 ghost use Rattle.tb_semantics.specs.Runs.{after};
 ghost use Rattle.tb_core.specs.Events.{HasStopped};
@@ -10,7 +11,8 @@ ghost use Rattle.tb_core.specs.Tree.{ProgramTree};
 ghost use Rattle.tb_core.specs.Width as core;
 ghost use Rattle.tb_ir.specs.AnfRules as anf;
 ghost use Rattle.tb_ir.specs.AnfWidth.{square_sum, width_of};
-ghost use Rattle.tb_mac.specs.FramedRuns.{framed_events, framed_full, framed_machine, measured_machine};
+ghost use Rattle.tb_mac.specs.Frames.{Framed};
+ghost use Rattle.tb_mac.specs.FramedRuns.{Runs, framed_events, framed_full, framed_machine, measured_machine};
 ghost use Rattle.tb_codegen.specs.Fits.{Fits};
 ghost use Rattle.tb_passes.specs.Compilable.{IsCompilable};
 ghost use Rattle.tb_passes.specs.Passes.{anf_of, program_code};
@@ -66,4 +68,17 @@ pub fn code_stands_still_at_the_end()
     tb_core::laws::all_events_end();
     tb_core::laws::emits_in_order();
     tb_core::laws::stopped_stays();
+}
+
+/// Code that has not stopped after so many steps has emitted so many events that the steps are fewer than 8 * Q + 10 for each
+/// of them and the next one, with Q the sum of the squared widths of the program.
+pub fn code_is_quick()
+    ensures law { (p : ProgramTree) → IsCompilable p → (heap : ℕ) (input : List ℕ) (n : ℕ) (m : Framed) (rest : List ℕ)
+        (es : List Event) → after (framed_machine (program_code p) heap input) n ≡ Runs m rest es →
+        n < (8 * core.square_sum p + 10) * (length es + 1) }
+{
+    normal_form_fits();
+    tb_codegen::laws::code_is_quick();
+    tb_codegen::laws::code_is_short();
+    tb_codegen::laws::windows_are_short();
 }

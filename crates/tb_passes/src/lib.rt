@@ -1,5 +1,8 @@
-//! The passes from the core language to code of the MAC machine, one after another: `Passes` names the code of a
-//! program, and `laws` says what it keeps.
+//! The passes from the core language to code of the MAC machine, one after another: `code_of_program` makes the code of a
+//! program, which `Passes` names; `laws` says what it keeps.
 #![tactic(auto)]
 
+mod chain;
 pub mod laws;
+
+pub use chain::code_of_program;
