@@ -170,11 +170,11 @@ module _ (p : ProgramTree) (r : KeepsRules p) where
   forms_kept none h m w = tt
   forms_kept (more e es) h m w = (
     let v = a-value g e m.0 in
-    record {
-      makes_cells = body_makes _ (nodes (eliminate g e)) (part_left (nodes (eliminate g e)) (nodes_of (eliminate_all g es)) w) (λ z. tree_enough g z e h.0);
-      value = v.no_mark;
-      no_cell = v.no_cell;
-    },
+        record {
+          makes_cells = body_makes _ (nodes (eliminate g e)) (part_left (nodes (eliminate g e)) (nodes_of (eliminate_all g es)) w) (λ z. tree_enough g z e h.0);
+          value = v.no_mark;
+          no_cell = v.no_cell;
+        },
     forms_kept es h.1 m.1 (part_right (nodes (eliminate g e)) (nodes_of (eliminate_all g es)) w),
   )
 

@@ -51,7 +51,7 @@ module _ (g : ℕ → Bool) where
   few_stand q s (Let xs es e) h = (
     omega arith,
     makes_hold (λ f. C.count (passed_at f) ≤ 12) (λ x. omega arith) (λ d. omega arith) (λ ys ds d. omega arith) g q (let_site s)
-    (celled g xs) (eliminate g e),
+        (celled g xs) (eliminate g e),
   )
   few_stand q s (Letrec xs ls e) h = omega arith
   few_stand q s (Seq es) h = omega arith
