@@ -5,28 +5,59 @@ use tb_twobit::{CompileRefusal, RefusalKind, compile, twobit};
 
 /// What a call gave.
 #[derive(Drop)]
-struct Outcome {
-    out: MemSink,
-    diag: MemSink,
-    status: u8,
+pub(super) struct Outcome {
+    pub out: MemSink,
+    pub diag: MemSink,
+    pub status: u8,
 }
+
+/// The objects in memory of a call: what the input holds, and which calls of each fail.
+#[derive(Clone, Copy)]
+pub(super) struct World<'a> {
+    pub input: &'a [u8],
+    pub store_fails: &'a [u64],
+    pub input_fails: &'a [u64],
+    pub out_fails: &'a [u64],
+}
+
+pub(super) const NO_FAULTS: World<'static> = World {
+    input: b"",
+    store_fails: &[],
+    input_fails: &[],
+    out_fails: &[],
+};
 
 /// The call over objects in memory, of which the calls with these numbers fail. The text is saved by call 0
 /// of the store.
-fn called(
+pub(super) fn called_in(
     alloc: Global,
     words: &[&str],
     text: &[u8],
-    store_fails: &[u64],
-    out_fails: &[u64],
+    world: World,
 ) -> Result<Outcome, Fail> {
-    let mut store = MemStore::new(alloc, store_fails)?;
+    let mut store = MemStore::new(alloc, world.store_fails)?;
     store.save(alloc, "a.scm", text)?;
-    let mut input = MemSource::new(alloc, b"", &[])?;
-    let mut out = MemSink::new(alloc, 4096, out_fails)?;
+    let mut input = MemSource::new(alloc, world.input, world.input_fails)?;
+    let mut out = MemSink::new(alloc, 4096, world.out_fails)?;
     let mut diag = MemSink::new(alloc, 4096, &[])?;
     let status = twobit(alloc, words, &mut store, &mut input, &mut out, &mut diag);
     Ok(Outcome { out, diag, status })
+}
+
+/// The same with an empty input.
+fn called<'a>(
+    alloc: Global,
+    words: &[&str],
+    text: &[u8],
+    store_fails: &'a [u64],
+    out_fails: &'a [u64],
+) -> Result<Outcome, Fail> {
+    let world = World {
+        store_fails,
+        out_fails,
+        ..NO_FAULTS
+    };
+    called_in(alloc, words, text, world)
 }
 
 /// A text, and what its run is to give: output, line and status.
@@ -181,22 +212,37 @@ fn sums_and_comparisons(rt: HostRuntime) -> Result<(), Fail> {
 
 #[test]
 fn refused_texts(rt: HostRuntime) -> Result<(), Fail> {
-    let runs: [(&[u8], &[u8]); 15] = [
-        (b"(car 1)", b"refused 115 1:1\n"),
-        (b"1 (car 1)", b"refused 115 1:3\n"),
-        (b"(write-char #\\a) x", b"refused 115 1:18\n"),
-        (b"(let ((a 1) (a 2)) a)", b"refused 115 1:1\n"),
-        (b"(let ((if 1)) 2)", b"refused 115 1:1\n"),
-        (b"(let ((a 1) (b a)) b)", b"refused 115 1:1\n"),
-        (b"1\n (begin)", b"refused 115 2:2\n"),
-        (b"(if 1 2)", b"refused 115 1:1\n"),
-        (b"'a", b"refused 115 1:1\n"),
+    let runs: [(&[u8], &[u8]); 27] = [
         (b"(write-char#\\a)", b"refused 101 1:2\n"),
         (b"1 ) 2", b"refused 101 1:3\n"),
         (b"(display \"ab", b"refused 102 1:10\n"),
         (b"(f . )", b"refused 101 1:6\n"),
         (b"536870912", b"refused 105 1:1\n"),
-        (b"(car 1) )", b"refused 101 1:9\n"),
+        (b"(if) )", b"refused 101 1:6\n"),
+        (b"(if)", b"refused 106 1:1\n"),
+        (b"1\n (begin 1 (if))", b"refused 106 2:10\n"),
+        (b"()", b"refused 106 1:1\n"),
+        (b"(quote)", b"refused 106 1:1\n"),
+        (b"(lambda x)", b"refused 106 1:1\n"),
+        (b"(lambda (1) 1)", b"refused 106 1:1\n"),
+        (b"(let ((a)) a)", b"refused 106 1:1\n"),
+        (b"(set! 1 2)", b"refused 106 1:1\n"),
+        (b"(define ((f x) y) 1)", b"refused 106 1:1\n"),
+        (
+            b"(lambda (a b c d e f g h i j k l m) a)",
+            b"refused 109 1:1\n",
+        ),
+        (b"(f 1 2 3 4 5 6 7 8 9 10 11 12 13)", b"refused 109 1:1\n"),
+        (b"(define car 1)", b"refused 110 1:9\n"),
+        (b"(set! cdr 1)", b"refused 110 1:7\n"),
+        (b"(define if 1)", b"refused 110 1:9\n"),
+        (b"(let ((a 1) (a 2)) a)", b"refused 112 1:14\n"),
+        (b"(lambda (x y x) x)", b"refused 112 1:14\n"),
+        (b"(letrec ((f 1) (f 2)) f)", b"refused 112 1:17\n"),
+        (b"(cond (1 2))", b"refused 115 1:1\n"),
+        (b"`(1 ,2)", b"refused 115 1:1\n"),
+        (b"(let loop ((i 0)) (loop i))", b"refused 115 1:1\n"),
+        (b"(if (if) (car))", b"refused 106 1:5\n"),
     ];
     for (text, line) in &runs {
         let run = Run {
@@ -320,10 +366,21 @@ fn repeated_gives(
 #[test]
 fn limits_of_texts(rt: HostRuntime) -> Result<(), Fail> {
     let form = b"(write-char #\\x)";
-    // A thousand expressions are accepted, and the next one is refused.
-    assert_eq!(rt; repeated_gives(rt.alloc(), form, 500, b"", b"", 0)?, true);
+    // A body of a thousand expressions is too wide.
     assert_eq!(rt;
-        repeated_gives(rt.alloc(), form, 500, b"1", b"refused 115 1:8001\n", 1)?,
+        repeated_gives(rt.alloc(), b"(let ()", 1, b" 1)", b"", 0)?,
+        true
+    );
+    let wide = repeated(rt.alloc(), b" 1", 1000, b")")?;
+    assert_eq!(rt;
+        repeated_gives(
+            rt.alloc(),
+            b"(let ()",
+            1,
+            wide.as_slice(),
+            b"refused 111 1:1\n",
+            1
+        )?,
         true
     );
     // 256 brackets may be open.

@@ -1,146 +1,230 @@
 -- A run of code that keeps the reference machine comes to a status of the command.
-use Rattle.std.proofs.Common.{◌≡◌, ℕ, suc, ◌+◌, ◌*◌, ◌≤◌, length, mul_comm, suc-mul, ⊎_elim, List, [], refl, sym, ap, ◌∙◌, subst, subst₂, arith}
+use Rattle.std.proofs.Common.{◌≡◌, ℕ, suc, ◌+◌, ◌*◌, ◌≤◌, ◌<◌, ◌++◌, length, length-append, Result, Ok, Err, List, [], ◌∷◌, All, refl, sym, ap, ◌∙◌, subst, false, true, slice_index_or, ◌-◌, ⊎_elim, append-nil, arith}
+use Rattle.std.proofs.Math.Nat.{mul-le-mul_left}
 use Rattle.tb_prim.specs.declared.event.Event.{Event}
 use Rattle.tb_prim.specs.declared.event.Stop.{Stop}
-use Rattle.tb_semantics.specs.Runs.{after}
-use Rattle.tb_semantics.proofs.SameEnd.{after-end}
-use Rattle.tb_core.specs.Tree.{Trees}
+use Rattle.tb_semantics.specs.Keeps.{Keeps}
+use Rattle.tb_semantics.specs.Runs.{EmitsInOrder, Ends, IsPrefix, Machine, after}
+use Rattle.tb_semantics.proofs.RunLaws.{after-stays, prefix-after, prefix_refl}
+use Rattle.tb_semantics.proofs.SameEnd.{either_le}
+use Rattle.tb_core.specs.Events.{EndsLast, HasStopped, is_last}
+use Rattle.tb_core.specs.Measures.{reference_measured}
+use Rattle.tb_core.specs.OperandOrder.{order_of}
+use Rattle.tb_core.specs.Reference as ref
+use Rattle.tb_core.specs.Reference.{reference}
+use Rattle.tb_core.specs.Tree.{ProgramTree}
 use Rattle.tb_core.specs.Width.{square_sum}
-use Rattle.tb_small_mac.specs.declared.code.Instr.{Instr}
-use Rattle.tb_small_mac.specs.declared.code.PlaceEntry.{PlaceEntry}
-use Rattle.tb_small_mac.specs.MacStep.{Mac}
-use Rattle.tb_small_mac.specs.MacEvents.{MacState, Going, Halted, next, mac_start, mac_machine, events_of}
-use Rattle.tb_small_mac.specs.RunDoes.{RunDoes}
-use Rattle.tb_small.specs.Compiled.{Compiles, IsOver, IsSmall}
-use Rattle.tb_sexp.specs.Tree as datum
-use Rattle.tb_forms.specs.Forms.{AreAccepted}
-use Rattle.tb_small.specs.Generate.{program_of, program_code, program_places}
+use Rattle.tb_mac.specs.Frames.{Framed}
+use Rattle.tb_mac.specs.FramedRuns.{FramedState, Runs as FramedRuns, Stays, flat_state, framed_events, framed_full, framed_machine, measured_machine}
+use Rattle.tb_mac.specs.Layout.{start_size}
+use Rattle.tb_mac.specs.MacEvents as mac
+use Rattle.tb_mac.specs.MacEvents.{MacState, Going, Halted, mac_machine}
+use Rattle.tb_mac.specs.MacStep.{Mac}
+use Rattle.tb_macm.specs.RunDoes.{IsPassing}
+use Rattle.tb_macm.specs.declared.load.LoadRefusal.{LoadRefusal}
+use Rattle.tb_passes.specs.Passes.{program_code}
+use Rattle.tb_running.specs.Runs as running
+use Rattle.tb_running.specs.Runs.{CodeDoes, EndsWith}
 use Rattle.tb_twobit.specs.declared.status.Status.{Status}
 use Rattle.tb_twobit.specs.Words.{Go}
-use Rattle.tb_twobit.specs.Refusals.{IsAccepted, IsCompiled}
-use Rattle.tb_twobit.specs.Sinks.{Sunk, Gained}
-use Rattle.tb_twobit.specs.GoDoes.{Outside, machine_of, RunEnds, ended, not_put, failed, out_of_steps, NeedsNoMore, Runs, HasFile, GoDoes, no_memory, ran}
-use Rattle.tb_twobit.specs.Statuses.{number}
-use Rattle.tb_twobit.specs.calls.Running.{Finishes, RunsCode, no_heap, code_ran}
-use Rattle.std.proofs.lemmas.Bool.{cases_lt}
+use Rattle.tb_twobit.specs.Refusals.{IsAccepted}
+use Rattle.tb_twobit.specs.Sinks.{Said, Sunk}
+use Rattle.tb_twobit.specs.GoDoes as does
+use Rattle.tb_twobit.specs.GoDoes.{GoDoes, HasFile, HasInput, NeedsNoMore, Outside, RunEnds, Runs, machine_of}
+use Rattle.tb_twobit.specs.Statuses.{full_line, number}
+use Rattle.tb_twobit.specs.calls.Running.{Finishes}
 
-over_still : (C : List Instr) (P : List PlaceEntry) (s : MacState) → IsOver s → next C P s ≡ s
-over_still C P (Going m es) h = absurd h
-over_still C P (Halted m s es) h = refl
+-- what is known of code: the laws of the layers below, for one program, one memory and one input
+pub record CodeLaws (p : ProgramTree) (heap : ℕ) (input : List ℕ) : Type 0 where
+  pub keeps : Keeps (measured_machine (program_code p) heap input) (reference_measured p (order_of p) input) 1
+  pub stands : (n : ℕ) →
+      (framed_machine (program_code p) heap input).step (after (framed_machine (program_code p) heap input) n)
+      ≡ after (framed_machine (program_code p) heap input) n →
+      framed_full (after (framed_machine (program_code p) heap input) n) ≡ false →
+      (m : ℕ) × HasStopped (after (reference p (order_of p) input) m)
+      × (framed_events (after (framed_machine (program_code p) heap input) n)
+      ≡ ref.events_of (after (reference p (order_of p) input) m))
+  pub flat : (n : ℕ) → flat_state (after (framed_machine (program_code p) heap input) n)
+      ≡ after (mac_machine (program_code p) heap input) n
+  pub ends_last : (n : ℕ) → EndsLast (after (reference p (order_of p) input) n)
+  pub in_order : EmitsInOrder (reference p (order_of p) input)
+  pub all_end : (es : List Event) → ((n : ℕ) → IsPrefix (ref.events_of (after (reference p (order_of p) input) n)) es) →
+      (n : ℕ) × HasStopped (after (reference p (order_of p) input) n)
+  pub quick : (n : ℕ) (m : Framed) (rest : List ℕ) (es : List Event) →
+      after (framed_machine (program_code p) heap input) n ≡ FramedRuns m rest es →
+      n < (8 * square_sum p + 10) * (length es + 1)
 
--- a machine that comes to its end or fails stops in no other way
-over_only : (C : List Instr) (P : List PlaceEntry) (heap n k : ℕ) (m : Mac) (s : Stop) (es : List Event) →
-    IsOver (after (mac_machine C P heap) n) → after (mac_machine C P heap) k ≡ Halted m s es → IsOver (Halted m s es)
-over_only C P heap n k m s es over is =
-    ⊎_elim
-    (λ lt.
-    let same = after-end (mac_machine C P heap) n k (events_of (after (mac_machine C P heap) n)) (record { emitted = refl; still = over_still C P (after (mac_machine C P heap) n) over }) (omega arith) in
-    subst IsOver (sym same ∙ is) over)
-    (λ le.
-    let same = after-end (mac_machine C P heap) k n (events_of (after (mac_machine C P heap) k)) (record { emitted = refl; still = ap (next C P) is ∙ sym is }) le in
-    subst IsOver (same ∙ is) over)
-    (cases_lt n k)
+flat_events : (s : FramedState) → mac.events_of (flat_state s) ≡ framed_events s
+flat_events (FramedRuns m input es) = refl
+flat_events (Stays m s input es) = refl
 
--- steps for at least one event are as many as the bound on instructions
-at_least_once : (q k j l steps taken : ℕ) → k ≤ l → l ≤ 8 * q + 8 → (8 * q + 10) * suc j ≤ steps → taken ≡ steps →
-    k ≤ taken
-at_least_once q k j l steps taken a b c d = omega (arith, mul_comm (8 * q + 10) (suc j), suc-mul j (8 * q + 10))
+-- events that pass do not end with the last of a run
+passing_last : (front : List Event) (e : Event) → All IsPassing (front ++ e ∷ []) → IsPassing e
+passing_last front e h =
+    subst IsPassing (index_last front e e) (h (length front) e (let l = length-append front (e ∷ []) in omega arith))
+  where
+    index_last : (xs : List Event) (x d : Event) → slice_index_or (xs ++ x ∷ []) (length xs) d ≡ x
+    index_last [] x d = refl
+    index_last (y ∷ xs) x d = index_last xs x d
 
--- once over, a machine does not go on
-over_not_going : (C : List Instr) (P : List PlaceEntry) (heap n k : ℕ) (m : Mac) (es : List Event) →
-    IsOver (after (mac_machine C P heap) n) → n ≤ k → after (mac_machine C P heap) k ≡ Going m es → ⊥
-over_not_going C P heap n k m es over le is =
-    let same = after-end (mac_machine C P heap) n k (events_of (after (mac_machine C P heap) n)) (record { emitted = refl; still = over_still C P (after (mac_machine C P heap) n) over }) le in
-    subst IsOver (sym same ∙ is) over
+not_last : (e : Event) → IsPassing e → is_last e ≡ true → ⊥
+not_last (Event.Enter l) h e = cc
+not_last Event.Back h e = cc
+not_last (Event.Put c) h e = cc
+not_last (Event.Took t) h e = cc
+not_last Event.End h e = h
+not_last (Event.Fail c q) h e = h
 
--- code that is run as `go` runs the code of these forms
-module _ (go : Go) (forms : Trees) (compiled : Compiles (program_of forms) (program_code forms) (program_places forms))
-    (short : length (program_code forms) ≤ 8 * square_sum (program_of forms) + 8) (least : 1024 ≤ go.heap)
-    (out diag : Sunk) where
-  abbrev C : List Instr
-  C = program_code forms
+-- where a run has stopped its events do not all pass
+no_pass : (s : ref.State) → HasStopped s → EndsLast s → All IsPassing (ref.events_of s) → ⊥
+no_pass (ref.Running c es) h l a = h
+no_pass (ref.Stopped c es) h l a = not_last l.last (passing_last l.front l.last (subst (All IsPassing) l.whole a)) l.stops
+no_pass (ref.Lost c es) h l a = h
 
-  abbrev P : List PlaceEntry
-  P = program_places forms
+module _ (go : Go) (p : ProgramTree) (input : List ℕ) (laws : CodeLaws p go.heap input) where
+  abbrev at : ℕ → MacState
+  at n = after (machine_of go p input) n
 
-  -- the run that `go` made, and how it ended
-  abbrev Made : Mac → Stop → Type 0
-  Made new stop = RunDoes C P (mac_start go.heap) new out.before out.now out.faults out.faults_now go.steps stop
+  like_reference : (n : ℕ) → (m : ℕ) × (mac.events_of (at n) ≡ ref.events_of (after (reference p (order_of p) input) m))
+  like_reference n =
+      let w = (laws.keeps).windows n in
+      (w.0, ap mac.events_of (sym (laws.flat n)) ∙ flat_events (after (framed_machine (program_code p) go.heap input) n) ∙ w.1)
 
-  abbrev EndsAt : ℕ → ℕ → Type 0
-  EndsAt taken status = RunEnds forms (after (machine_of go forms) taken) taken go.steps out diag status
+  -- a state without a next step stands still, and is not full
+  stuck_stands : (s : FramedState) (m : Mac) (pc : ℕ) (rest : List ℕ) (es : List Event) →
+      flat_state s ≡ Halted m (Stop.Stuck pc) rest es →
+      ((framed_machine (program_code p) go.heap input).step s ≡ s) × (framed_full s ≡ false) × (framed_events s ≡ es)
+  stuck_stands (FramedRuns x y z) m pc rest es e = cc
+  stuck_stands (Stays x (Stop.Stuck q) y z) m pc rest es e = (refl, refl, cc)
+  stuck_stands (Stays x (Stop.Full h s n) y z) m pc rest es e = cc
+  stuck_stands (Stays x Stop.End y z) m pc rest es e = cc
+  stuck_stands (Stays x (Stop.Fail c q) y z) m pc rest es e = cc
+  stuck_stands (Stays x Stop.Steps y z) m pc rest es e = cc
+  stuck_stands (Stays x Stop.ReadFault y z) m pc rest es e = cc
+  stuck_stands (Stays x Stop.WriteFault y z) m pc rest es e = cc
 
-  -- a run is over after as many steps as there are instructions
-  enough : (taken status : ℕ) → EndsAt taken status → NeedsNoMore forms go.steps status
-  enough taken _ (ended front a b d) j n es e l le is = omega arith
-  enough taken _ (not_put fs a b d p f h) j n es e l le is = omega arith
-  enough taken _ (failed front c p a b d) j n es e l le is = omega arith
-  enough taken _ (out_of_steps fs going b all f) j n es e l le is =
-      let over = compiled.ends go.heap least in
-      over_not_going C P go.heap over.0 taken _ fs over.2 (within over.0 over.1) going
+  never_stuck : (n : ℕ) (m : Mac) (pc : ℕ) (rest : List ℕ) (es : List Event) → at n ≡ Halted m (Stop.Stuck pc) rest es →
+      All IsPassing es → ⊥
+  never_stuck n m pc rest es e a =
+      let s = stuck_stands (after (framed_machine (program_code p) go.heap input) n) m pc rest es (laws.flat n ∙ e) in
+      let end = laws.stands n s.0 s.1 in
+      no_pass (after (reference p (order_of p) input) end.0) end.1 (laws.ends_last end.0)
+      (subst (All IsPassing) (sym s.2 ∙ end.2) a)
+
+  -- where the reference has emitted all its events, every moment's are a beginning of them
+  abbrev source : Machine Event ref.State
+  source = reference p (order_of p) input
+
+  begins : (n : ℕ) (es : List Event) → Ends source n es → (m : ℕ) → IsPrefix (ref.events_of (after source m)) es
+  begins n es e m =
+      ⊎_elim
+      (λ le. let z : m + (n - m) ≡ n = omega arith in
+      subst (IsPrefix (ref.events_of (after source m))) (ap (λ k. ref.events_of (after source k)) z ∙ e.emitted)
+      (prefix-after source laws.in_order m (n - m)))
+      (λ ge. let z : n + (m - n) ≡ m = omega arith in
+      let same : ref.events_of (after source m) ≡ es =
+      ap (λ k. ref.events_of (after source k)) (sym z) ∙ ap ref.events_of (after-stays source n (m - n) (after source n) refl e.still) ∙ e.emitted in
+      subst (λ fs. IsPrefix fs es) (sym same) (prefix_refl es))
+      (either_le m n)
+
+  -- a run of the reference that stands still has stopped
+  still_stopped : (n : ℕ) (es : List Event) → Ends source n es → HasStopped (after source n)
+  still_stopped n es e =
+      let k = laws.all_end es (begins n es e) in
+      subst HasStopped (same_end k.0 k.1) k.1
     where
-      within : (k : ℕ) → k ≤ length C → k ≤ taken
-      within k h = at_least_once (square_sum (program_of forms)) k j (length C) go.steps taken h short le all
+      stays_stopped : (s : ref.State) → HasStopped s → source.step s ≡ s
+      stays_stopped (ref.Running c fs) h = absurd h
+      stays_stopped (ref.Stopped c fs) h = refl
+      stays_stopped (ref.Lost c fs) h = absurd h
 
-  -- the run, from how it ends
-  ran_so : (new : Mac) (stop : Stop) (r : Made new stop) (status : Status) (n : ℕ) → number status ≡ n →
-      EndsAt r.taken n → Runs go forms out diag (number status)
-  ran_so new stop r status n own e =
-      let like = (compiled.keeps go.heap [] least).events r.taken in
-      let ends : EndsAt r.taken (number status) = subst (EndsAt r.taken) (sym own) e in
-      record {
+      same_end : (k : ℕ) → HasStopped (after source k) → after source k ≡ after source n
+      same_end k h =
+          ⊎_elim
+          (λ le. let z : k + (n - k) ≡ n = omega arith in
+          sym (after-stays source k (n - k) (after source k) refl (stays_stopped (after source k) h)) ∙ ap (after source) z)
+          (λ ge. let z : n + (k - n) ≡ k = omega arith in
+          ap (after source) (sym z) ∙ after-stays source n (k - n) (after source n) refl e.still)
+          (either_le k n)
+
+  -- a machine that goes on has emitted fewer events than a reference that has stopped
+  goes_framed : (s : FramedState) (m : Mac) (rest : List ℕ) (es : List Event) → flat_state s ≡ Going m rest es →
+      (f : Framed) × (s ≡ FramedRuns f rest es)
+  goes_framed (FramedRuns f x y) m rest es e = (f, (let a : x ≡ rest = cc in let b : y ≡ es = cc in ap (λ v. FramedRuns f v y) a ∙ ap (FramedRuns f rest) b))
+  goes_framed (Stays f s x y) m rest es e = cc
+
+  fewer_events : (taken j n : ℕ) (m : Mac) (rest : List ℕ) (es fs : List Event) → at taken ≡ Going m rest es → All IsPassing es →
+      Ends source n fs → length fs ≡ suc j → length es ≤ j
+  fewer_events taken j n m rest es fs e a d l =
+      let like = like_reference taken in
+      let mine : es ≡ ref.events_of (after source like.0) = sym (ap mac.events_of e) ∙ like.1 in
+      let pre = begins n fs d like.0 in
+      let len : length (ref.events_of (after source like.0) ++ pre.rest) ≡ length fs = ap length pre.whole in
+      let parts = length-append (ref.events_of (after source like.0)) pre.rest in
+      let own : length es ≡ length (ref.events_of (after source like.0)) = ap length mine in
+      no_rest pre.rest (pre.whole) (omega arith)
+    where
+      no_rest : (r : List Event) → ref.events_of (after source (like_reference taken).0) ++ r ≡ fs →
+          length es + length r ≡ suc j → length es ≤ j
+      no_rest (x ∷ r) w k = omega arith
+      no_rest [] w k =
+          let like = like_reference taken in
+          let all : es ≡ fs = sym (ap mac.events_of e) ∙ like.1 ∙ sym (append-nil (ref.events_of (after source like.0))) ∙ w in
+          absurd (no_pass (after source n) (still_stopped n fs d) (laws.ends_last n) (subst (All IsPassing) (all ∙ sym d.emitted) a))
+
+  enough : (taken status : ℕ) (out diag : Sunk) → RunEnds p (at taken) taken go.steps out diag status →
+      NeedsNoMore p input go.steps status
+  enough taken _ out diag (does.ended rest front a b d) j n es e l le is = omega arith
+  enough taken _ out diag (does.not_put rest fs a b d q f h) j n es e l le is = omega arith
+  enough taken _ out diag (does.failed rest front c q a b d) j n es e l le is = omega arith
+  enough taken _ out diag (does.full rest fs x y z a b d) j n es e l le is = omega arith
+  enough taken _ out diag (does.out_of_steps {m = m} rest fs going a t d) j n es e l le is =
+      let f = goes_framed (after (framed_machine (program_code p) go.heap input) taken) m rest fs (laws.flat taken ∙ going) in
+      let q = laws.quick taken f.0 rest fs f.1 in
+      let few = fewer_events taken j n m rest fs es going a e l in
+      let most : (8 * square_sum p + 10) * (length fs + 1) ≤ (8 * square_sum p + 10) * suc j =
+      mul-le-mul_left (8 * square_sum p + 10) (omega arith) in
+      omega (arith, q, most, le, t)
+
+  -- how the run ends, by the stop that the interpreter gave
+  run_ends : (taken : ℕ) (out diag : Sunk) (stop : Stop) (status : Status) → EndsWith (program_code p) (at taken) taken go.steps out stop →
+      Finishes go.heap (Ok stop) diag status → RunEnds p (at taken) taken go.steps out diag (number status)
+  run_ends taken out diag _ status (running.out_of_steps rest es e a t) f =
+      subst (RunEnds p (at taken) taken go.steps out diag) (sym (ap number f.own)) (does.out_of_steps rest es e a t f.silent)
+  run_ends taken out diag _ status (running.not_put rest es e a t b r) f =
+      subst (RunEnds p (at taken) taken go.steps out diag) (sym (ap number f.own)) (does.not_put rest es e a t b r f.silent)
+  run_ends taken out diag _ status (running.ended rest es e a) f =
+      subst (RunEnds p (at taken) taken go.steps out diag) (sym (ap number f.own)) (does.ended rest es e a f.silent)
+  run_ends taken out diag _ status (running.failed rest es c q e a) f =
+      subst (RunEnds p (at taken) taken go.steps out diag) (sym (ap number f.own)) (does.failed rest es c q e a f.says)
+  run_ends taken out diag _ status (running.full rest es h s n e a) f =
+      subst (RunEnds p (at taken) taken go.steps out diag) (sym (ap number f.own)) (does.full rest es h s n e a f.says)
+  run_ends taken out diag _ status (running.stuck rest es pc e a) f = absurd (never_stuck taken _ pc rest es e a)
+
+  pub code_runs : (out diag : Sunk) (stop : Stop) (status : Status) →
+      running.Runs (program_code p) (record { heap = go.heap; steps = go.steps; input = input }) out stop →
+      Finishes go.heap (Ok stop) diag status → Runs go p input out diag (number status)
+  code_runs out diag stop status r f =
+      let like = like_reference r.taken in record {
         taken = r.taken;
         within = r.within;
         moment = like.0;
         like_reference = like.1;
         put = r.put;
-        ends = ends;
-        needs_no_more = enough r.taken (number status) ends;
+        ends = run_ends r.taken out diag stop status r.ends f;
+        needs_no_more = enough r.taken (number status) out diag (run_ends r.taken out diag stop status r.ends f);
       }
 
-  never : (new : Mac) (stop : Stop) (es : List Event) (k : ℕ) → after (machine_of go forms) k ≡ Halted new stop es →
-      IsOver (Halted new stop es)
-  never new stop es k is =
-      let e = compiled.ends go.heap least in
-      over_only C P go.heap e.0 k new stop es e.2 is
-
-  pub code_runs : (new : Mac) (stop : Stop) → Made new stop → (status : Status) → Finishes stop diag status →
-      Runs go forms out diag (number status)
-  code_runs new Stop.End r status f =
-      ran_so new Stop.End r status 0 (ap number f.own) (ended r.events r.stands r.passing f.silent)
-  code_runs new (Stop.Fail c p) r status f =
-      ran_so new (Stop.Fail c p) r status 6 (ap number f.own) (failed r.events c p r.stands r.passing f.says)
-  code_runs new (Stop.Full h s n) r status f = absurd (never new (Stop.Full h s n) _ r.taken r.stands)
-  code_runs new Stop.Steps r status f =
-      ran_so new Stop.Steps r status 8 (ap number f.own)
-      (out_of_steps r.events r.stands.going r.passing r.stands.all f.silent)
-  code_runs new (Stop.Stuck pc) r status f = absurd (never new (Stop.Stuck pc) _ r.taken r.stands)
-  code_runs new Stop.ReadFault r status f = absurd r.stands
-  code_runs new Stop.WriteFault r status f =
-      ran_so new Stop.WriteFault r status 4 (ap number f.own)
-      (not_put r.events r.stands.going r.passing r.stands.before r.stands.puts r.stands.rose f.silent)
-
-  -- what the command does when it has run the code
-  pub go_runs : (o : Outside) → o.out ≡ out → o.diag ≡ diag → (bytes : List ℕ) → HasFile o.files go.source bytes →
-      IsAccepted bytes forms → (status : Status) → RunsCode C P go.heap go.steps out diag status →
-      GoDoes go o (number status)
-  go_runs o so sd bytes file a status (no_heap own p q) =
-      subst (λ s. GoDoes go o (number s)) (sym own)
-      (no_memory (subst (λ s. Gained s []) (sym so) p) (subst (λ s. Gained s []) (sym sd) q))
-  go_runs o so sd bytes file a status (code_ran r) =
-      ran bytes forms file a
-      (subst₂ (λ x y. Runs go forms x y (number status)) (sym so) (sym sd) (code_runs r.new r.stop r.does status r.finishes))
-
 -- the command on a text that was compiled, when it has run the code
-pub go_compiled : (go : Go) (o : Outside) → 1024 ≤ go.heap →
-    ((es : Trees) → IsSmall es → Compiles (program_of es) (program_code es) (program_places es)) →
-    ((es : Trees) → IsSmall es → length (program_code es) ≤ 8 * square_sum (program_of es) + 8) →
-    ((ds : datum.Trees) (es : Trees) → AreAccepted ds es → IsSmall es) →
-    (bytes : List ℕ) → HasFile o.files go.source bytes → (code : List Instr) (places : List PlaceEntry) →
-    IsCompiled bytes code places →
-    (status : Status) → RunsCode code places go.heap go.steps o.out o.diag status → GoDoes go o (number status)
-go_compiled go o least keeps short small bytes file code places made status run =
-    let is_small = small _ made.forms made.accepted.built in
-    go_runs go made.forms (keeps made.forms is_small) (short made.forms is_small) least o.out o.diag o refl refl bytes
-    file made.accepted status
-    (subst₂ (λ c p. RunsCode c p go.heap go.steps o.out o.diag status) made.own_code made.own_places run)
+pub go_runs : (go : Go) (o : Outside) (bytes input : List ℕ) (p : ProgramTree) → HasFile o.files go.source bytes →
+    IsAccepted bytes p → HasInput o.input input → (start_size (program_code p).parts + 64 ≤ go.heap → CodeLaws p go.heap input) →
+    (ended : Result Stop LoadRefusal) (status : Status) →
+    CodeDoes (program_code p) (record { heap = go.heap; steps = go.steps; input = input }) o.out ended →
+    Finishes go.heap ended o.diag status → GoDoes go o (number status)
+go_runs go o bytes input p file a has laws (Ok stop) status d f =
+    does.ran bytes input p file a has (code_runs go p input (laws d.0) o.out o.diag stop status d.1 f)
+go_runs go o bytes input p file a has laws (Err (LoadRefusal.HeapSmall pointer)) status d f =
+    subst (GoDoes go o) (sym (ap number f.own))
+    (does.not_fitting bytes input p file a has d.0 d.2 (subst (λ n. Said o.diag (full_line n go.heap 64)) d.1 f.says))
+go_runs go o bytes input p file a has laws (Err LoadRefusal.NoMemory) status d f =
+    subst (GoDoes go o) (sym (ap number f.own)) (does.no_memory d.1 f.silent)

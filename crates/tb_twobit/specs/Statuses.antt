@@ -40,6 +40,15 @@ refusal_number kind.Unclosed = 102
 refusal_number kind.TooDeep = 103
 refusal_number kind.TooLong = 104
 refusal_number kind.TooBig = 105
+refusal_number kind.BadForm = 106
+refusal_number kind.NoMatch = 107
+refusal_number kind.BadRules = 108
+refusal_number kind.TooManyArgs = 109
+refusal_number kind.Integrated = 110
+refusal_number kind.TooWide = 111
+refusal_number kind.Duplicate = 112
+refusal_number kind.Budget = 113
+refusal_number kind.NotInProfile = 114
 refusal_number kind.NotBuilt = 115
 
 -- some texts, one after another
@@ -65,3 +74,8 @@ refused_line r = placed_line (codes "refused ") (refusal_number r.kind) r.place
 -- the line of a run that failed: its cause, and its place
 abbrev pub failed_line : Cause → Place → List ℕ
 failed_line c p = placed_line (codes "failed ") (cause_number c) p
+
+-- the line of a request that does not fit: the heap pointer, the stack pointer, and the words that are asked for
+abbrev pub full_line : ℕ → ℕ → ℕ → List ℕ
+full_line pointer stack need =
+    joined (codes "full " ∷ decimal pointer ∷ codes " " ∷ decimal stack ∷ codes " " ∷ decimal need ∷ (10 ∷ []) ∷ [])

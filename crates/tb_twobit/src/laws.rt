@@ -1,20 +1,20 @@
 //! What holds of all source texts.
 
 ghost use Rattle.std.specs.Prelude.{◌≡◌, ◌⊎◌, ℕ, List};
-ghost use Rattle.tb_core.specs.Tree.{Trees};
+ghost use Rattle.tb_core.specs.Tree.{ProgramTree};
 ghost use Rattle.tb_twobit.specs.Refusals.{IsAccepted, IsRefusedWith};
 ghost use Rattle.tb_twobit.specs.declared.refusal.Refusal.{Refusal};
 
-use tb_forms::one_answer;
+use tb_expand::one_answer_a_text as one_meaning_a_text;
 use tb_sexp::laws::texts_read_one_way;
 
 /// A source text is accepted with one program, or refused with one number at one place, and not both.
 pub fn one_answer_a_text()
-    ensures not_both { (bytes : List ℕ) (forms : Trees) (r : Refusal) → IsAccepted bytes forms → IsRefusedWith bytes r → ⊥ }
-    ensures one_program { (bytes : List ℕ) (f g : Trees) → IsAccepted bytes f → IsAccepted bytes g → f ≡ g }
+    ensures not_both { (bytes : List ℕ) (p : ProgramTree) (r : Refusal) → IsAccepted bytes p → IsRefusedWith bytes r → ⊥ }
+    ensures one_program { (bytes : List ℕ) (p q : ProgramTree) → IsAccepted bytes p → IsAccepted bytes q → p ≡ q }
     ensures one_refusal { (bytes : List ℕ) (r s : Refusal) → IsRefusedWith bytes r → IsRefusedWith bytes s → r ≡ s }
-    ensures covered { (bytes : List ℕ) → ((forms : Trees) × IsAccepted bytes forms) ⊎ ((r : Refusal) × IsRefusedWith bytes r) }
+    ensures covered { (bytes : List ℕ) → ((p : ProgramTree) × IsAccepted bytes p) ⊎ ((r : Refusal) × IsRefusedWith bytes r) }
 {
     texts_read_one_way();
-    one_answer();
+    one_meaning_a_text();
 }

@@ -4,7 +4,7 @@ ghost use Rattle.std.specs.Prelude.{◌≡◌, ◌≤◌, map};
 ghost use Rattle.tb_base.specs.Outside.{HasCause, PutsAll};
 ghost use Rattle.tb_twobit.specs.Sinks.{Said, sunk};
 ghost use Rattle.tb_twobit.specs.Statuses as statuses;
-ghost use Rattle.tb_twobit.specs.Statuses.{joined, placed_line, refused_line, failed_line};
+ghost use Rattle.tb_twobit.specs.Statuses.{joined, placed_line, refused_line, failed_line, full_line};
 
 use super::refusal::Refusal;
 use itoa::Buffer;
@@ -25,6 +25,25 @@ pub fn say_failed<E: Sink>(diag: &mut E, cause: Cause, place: Place)
     ensures later { E.faults diag.old ≤ E.faults diag.new }
 {
     let _ = put_placed(diag, b"failed ", cause_number(cause), place);
+}
+
+/// Says what did not fit: the heap pointer, the stack pointer and the words asked for. A fault of `diag` changes nothing.
+pub fn say_full<E: Sink>(diag: &mut E, pointer: u32, stack: u32, need: u32)
+    ensures line { Said (sunk E.held E.faults diag.old diag.new) (full_line pointer stack need) }
+    ensures later { E.faults diag.old ≤ E.faults diag.new }
+{
+    let _ = put_parts(
+        diag,
+        &[
+            b"full ",
+            Buffer::new().format(pointer).as_bytes(),
+            b" ",
+            Buffer::new().format(stack).as_bytes(),
+            b" ",
+            Buffer::new().format(need).as_bytes(),
+            b"\n",
+        ],
+    );
 }
 
 /// The number of the cause, 1 to 8.

@@ -3,7 +3,8 @@
 ghost use Rattle.std.specs.Prelude.{◌≡◌};
 ghost use Rattle.tb_twobit.specs.calls.Compiling.{refused_at};
 
-use tb_forms::FormRefusal;
+use tb_core::CoreRefusal;
+use tb_expand::ExpandRefusal;
 use tb_prim::{NoMemory, Place};
 use tb_sexp::ReadRefusal;
 
@@ -14,13 +15,31 @@ pub enum RefusalKind {
     Syntax = 101,
     /// A list, a vector or a string that is not closed.
     Unclosed = 102,
-    /// More than 256 levels of lists, vectors and marks.
+    /// More than 256 levels of lists, vectors and marks, or more than 1,000 levels of expressions.
     TooDeep = 103,
     /// A name of more than 255 bytes, or a string of more than 65,535 characters.
     TooLong = 104,
     /// A number past the range of fixnums.
     TooBig = 105,
-    /// A datum that is no small form.
+    /// A form that has none of its shapes, or what is no expression.
+    BadForm = 106,
+    /// A macro use that no pattern matches.
+    NoMatch = 107,
+    /// A macro's rules that are none.
+    BadRules = 108,
+    /// A call of more than 12 operands, or a lambda expression of more than 12 parameters.
+    TooManyArgs = 109,
+    /// A `define` at top level or a `set!` of a form's name or of an integrated one.
+    Integrated = 110,
+    /// A body or form wider than 1,000, or the sum of the squared widths past 1,048,576.
+    TooWide = 111,
+    /// The second of two equal variables that are bound together.
+    Duplicate = 112,
+    /// A limit on nodes, variables or static objects is passed.
+    Budget = 113,
+    /// A name that this profile of R5RS leaves out.
+    NotInProfile = 114,
+    /// A lawful form or name that is not built yet.
     NotBuilt = 115,
 }
 
@@ -74,16 +93,39 @@ impl From<ReadRefusal> for CompileRefusal {
     }
 }
 
-impl From<FormRefusal> for CompileRefusal {
+impl From<ExpandRefusal> for CompileRefusal {
     ghost use Rattle.std.specs.Prelude.{◌≡◌};
-    ghost use Rattle.tb_twobit.specs.calls.Compiling.{of_forms};
+    ghost use Rattle.tb_twobit.specs.calls.Compiling.{of_expansion};
 
-    ghost from_gives = { λ refusal made. made ≡ of_forms refusal };
+    ghost from_gives = { λ refusal made. made ≡ of_expansion refusal };
 
-    fn from(refusal: FormRefusal) -> CompileRefusal {
+    fn from(refusal: ExpandRefusal) -> CompileRefusal {
         match refusal {
-            FormRefusal::NotBuilt(place) => refused(RefusalKind::NotBuilt, place),
-            FormRefusal::NoMemory => CompileRefusal::NoMemory,
+            ExpandRefusal::BadForm(place) => refused(RefusalKind::BadForm, place),
+            ExpandRefusal::NoMatch(place) => refused(RefusalKind::NoMatch, place),
+            ExpandRefusal::BadRules(place) => refused(RefusalKind::BadRules, place),
+            ExpandRefusal::Integrated(place) => refused(RefusalKind::Integrated, place),
+            ExpandRefusal::Duplicate(place) => refused(RefusalKind::Duplicate, place),
+            ExpandRefusal::Budget(place) => refused(RefusalKind::Budget, place),
+            ExpandRefusal::TooDeep(place) => refused(RefusalKind::TooDeep, place),
+            ExpandRefusal::NotInProfile(place) => refused(RefusalKind::NotInProfile, place),
+            ExpandRefusal::NotBuilt(place) => refused(RefusalKind::NotBuilt, place),
+            ExpandRefusal::NoMemory => CompileRefusal::NoMemory,
+        }
+    }
+}
+
+impl From<CoreRefusal> for CompileRefusal {
+    ghost use Rattle.std.specs.Prelude.{◌≡◌};
+    ghost use Rattle.tb_twobit.specs.calls.Compiling.{of_limit};
+
+    ghost from_gives = { λ refusal made. made ≡ of_limit refusal };
+
+    fn from(refusal: CoreRefusal) -> CompileRefusal {
+        match refusal {
+            CoreRefusal::TooDeep(place) => refused(RefusalKind::TooDeep, place),
+            CoreRefusal::TooManyArgs(place) => refused(RefusalKind::TooManyArgs, place),
+            CoreRefusal::TooWide(place) => refused(RefusalKind::TooWide, place),
         }
     }
 }

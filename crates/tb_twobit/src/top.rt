@@ -28,21 +28,25 @@ pub fn twobit<S: Store, I: Source, O: Sink, E: Sink>(
       files = S.files store.old;
       loads = S.load_faults store.old command.source;
       loads_now = S.load_faults store.new command.source;
+      input = I.left input.old;
+      reads = I.faults input.old;
+      reads_now = I.faults input.new;
       out = sunk O.held O.faults out.old out.new;
       diag = sunk E.held E.faults diag.old diag.new;
     }) result) }
 
-    // With words that are no command nothing is put, said or loaded.
+    // With words that are no command nothing is put, said, loaded or read.
     ensures nothing_put { result ≡ 2 → out.new ≡ out.old }
     ensures nothing_said { result ≡ 2 → diag.new ≡ diag.old }
     ensures nothing_loaded { result ≡ 2 → store.new ≡ store.old }
+    ensures nothing_read { result ≡ 2 → input.new ≡ input.old }
 
-    // The store's files and the input stay as they are, and no count of faults falls.
+    // The store's files stay as they are, and no count of faults falls.
     ensures files { S.files store.new ≡ S.files store.old }
     ensures loads { IfSome (command_of (map (λ w. w.now) words.now)) (λ command.
         CountsOnly (S.load_faults store.old) (S.load_faults store.new) command.source) }
     ensures saves { SameCounts (S.save_faults store.old) (S.save_faults store.new) }
-    ensures input { input.new ≡ input.old }
+    ensures input_later { I.faults input.old ≤ I.faults input.new }
     ensures later { O.faults out.old ≤ O.faults out.new }
     ensures diag_later { E.faults diag.old ≤ E.faults diag.new }
 {

@@ -1,5 +1,5 @@
-//! The program: it hands the words of the command line and the real store, output and error to the top call,
-//! and ends with its status. No command reads the input yet, so that it hands in an empty one.
+//! The program: it hands the words of the command line and the real store, input, output and error to the top call,
+//! and ends with its status.
 #![tactic(auto)]
 
 use std::alloc::{AllocError, Global};
@@ -7,8 +7,7 @@ use std::env;
 use std::io::ErrorKind;
 use std::process::ExitCode;
 use std::rt::Env;
-use tb_base::{MemSource, RealSink, RealStore};
-use tb_prim::NoMemory;
+use tb_base::{RealSink, RealSource, RealStore};
 use tb_twobit::{Status, twobit};
 
 fn main(rt: HostRuntime) -> ExitCode {
@@ -35,11 +34,11 @@ fn words(rt: &(impl Env + AllocGlobal)) -> Result<Vec<String>, Status> {
     Ok(words)
 }
 
-fn run(rt: &HostRuntime, words: &[String]) -> Result<u8, NoMemory> {
+fn run(rt: &HostRuntime, words: &[String]) -> Result<u8, AllocError> {
     let alloc = rt.alloc();
     let words = texts(alloc, words)?;
     let mut store = RealStore::new(alloc, rt);
-    let mut input = MemSource::new(alloc, b"", &[])?;
+    let mut input = RealSource::new(rt.stdin());
     let mut out = RealSink::new(rt.stdout());
     let mut diag = RealSink::new(rt.stderr());
     Ok(twobit(

@@ -10,10 +10,15 @@ returns c =
       one_refusal = c.texts_read_one_way.ensures.one_refusal false;
       covered = c.texts_read_one_way.ensures.covered false;
     } in
-    let forms : DataLaws = record {
-      not_both = c.one_answer.ensures.not_both;
-      one_refusal = c.one_answer.ensures.one_refusal;
-      one_program = c.one_answer.ensures.one_program;
-      covered = c.one_answer.ensures.covered;
+    let means : DataLaws = record {
+      not_both = c.one_answer_a_text.ensures.not_both false;
+      one_refusal = c.one_answer_a_text.ensures.one_refusal false;
+      one_meaning = c.one_answer_a_text.ensures.one_meaning false;
+      covered = c.one_answer_a_text.ensures.covered false;
     } in
-    record { not_both = not_both texts forms; one_program = one_program texts forms; one_refusal = one_refusal texts forms; covered = covered texts forms }
+    record {
+      not_both = not_both texts means;
+      one_program = one_program texts means;
+      one_refusal = one_refusal texts means;
+      covered = covered texts means;
+    }

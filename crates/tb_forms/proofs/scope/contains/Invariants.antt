@@ -1,7 +1,0 @@
-use Rattle.std.proofs.Common.{◌≡◌, drop, bytes_eq}
-use Rattle.std.specs.List.{list_any}
-use Rattle.tb_forms.specs.Bounds.{texts}
-use Rattle.tb_forms.proofs.scope.contains.Given as goal
-
-abbrev pub invariant-loop-other : goal.invariant-loop-other
-invariant-loop-other l = list_any (bytes_eq l.name) (texts (drop l.other-index l.names)) ≡ list_any (bytes_eq l.name) (texts l.names)

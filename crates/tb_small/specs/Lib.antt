@@ -1,9 +1,0 @@
-pub mod Generate
-pub mod Meaning
-pub mod Built
-pub mod Compiled
-pub mod Ranges
-pub mod Scopes
-pub mod HasCode
-pub mod CodeRules
-pub mod Parts

@@ -1,5 +1,0 @@
-use Rattle.tb_small_mac.proofs.RunLaws.{emits_in_order}
-use Rattle.tb_small_mac.proofs.laws.events_come_in_order.Goals as goal
-
-pub returns : goal.returns
-returns c = record { law = emits_in_order }

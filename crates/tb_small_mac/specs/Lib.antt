@@ -1,9 +1,0 @@
-pub mod Words
-pub mod Rules
-pub mod MacStep
-pub mod States
-pub mod Steps
-pub mod RunDoes
-pub mod Loaded
-pub mod MacEvents
-pub mod Examples
