@@ -98,10 +98,6 @@ fn procedures(rt: HostRuntime) -> Result<(), Fail> {
             b"ab",
         ),
         puts(
-            b"(define (f . r) (write-char (car (cdr (cdr (cdr (cdr (cdr (cdr (cdr (cdr (cdr (cdr (cdr r))))))))))))) (f #\\a #\\b #\\c #\\d #\\e #\\f #\\g #\\h #\\i #\\j #\\k #\\l)",
-            b"l",
-        ),
-        puts(
             b"(define (f . r) (write-char (car r))) (apply f '(#\\a #\\b #\\c #\\d #\\e #\\f #\\g #\\h #\\i #\\j #\\k #\\l))",
             b"a",
         ),
@@ -121,7 +117,7 @@ fn procedures(rt: HostRuntime) -> Result<(), Fail> {
             b"z",
             b"failed 8 3:1\n",
         ),
-        fails(b"(apply car 1)", b"", b"failed 3 1:1\n"),
+        fails(b"(apply (lambda (x) x) 1)", b"", b"failed 3 1:1\n"),
     ];
     for row in &rows {
         assert_eq!(rt; holds(rt.alloc(), row)?, true);
@@ -157,14 +153,6 @@ fn primitives(rt: HostRuntime) -> Result<(), Fail> {
             b"b",
         ),
         puts(
-            b"(let ((v (make-vector 3))) (vector-set! v 2 #\\v) (write-char (vector-ref v 2)) (if (= (vector-length v) 3) (write-char #\\3) 1))",
-            b"v3",
-        ),
-        puts(
-            b"(let ((s (make-string 5))) (string-set! s 4 #\\s) (write-char (string-ref s 4)) (if (= (string-length s) 5) (write-char #\\5) 1))",
-            b"s5",
-        ),
-        puts(
             b"(write-char (vector-ref '#(#\\a #\\b) 1)) (write-char (string-ref \"xyz\" 2))",
             b"bz",
         ),
@@ -184,7 +172,6 @@ fn primitives(rt: HostRuntime) -> Result<(), Fail> {
         fails(b"(vector-ref '#(1 2) -1)", b"", b"failed 5 1:1\n"),
         fails(b"(string-ref \"ab\" 2)", b"", b"failed 5 1:1\n"),
         fails(b"(integer->char 256)", b"", b"failed 5 1:1\n"),
-        fails(b"(make-vector -1)", b"", b"failed 5 1:1\n"),
         fails(b"(set-car! '() 1)", b"", b"failed 3 1:1\n"),
         fails(b"(cdr 1)", b"", b"failed 3 1:1\n"),
         fails(b"(vector-length \"a\")", b"", b"failed 3 1:1\n"),
