@@ -14,7 +14,7 @@ use Rattle.tb_core.specs.Rules.{Each, EachForm, EachAll, NodeKeeps}
 use Rattle.tb_core.specs.Reference
 use Rattle.tb_core.specs.Reference.{Control, Eval, Bound, Val, Entering, Work, Sel, SetVar, SetGlo, Rest, Args, Top, Frame, Config, State, Running, Stopped, Lost, Context, context_of, free_of_tree, free_of_numbers, free_of_body}
 use Rattle.tb_core.proofs.Members.{in-left, in-right, in-either, without-sub}
-use Rattle.tb_core.proofs.Stores.{VarAt, Covers, Extends, covers-extends, extends-append, extends-set, get-either, SameKind, set-closure}
+use Rattle.tb_core.proofs.Stores.{VarAt, Covers, KeepsSizes, Extends, covers-extends, extends-append, extends-set, get-either, SameKind, set-closure}
 
 -- the rules of a node, and its line
 abbrev pub NodeOk : ProgramTree → ℕ → Form → Type 0
@@ -161,6 +161,12 @@ pub record Base (p : ProgramTree) (c : Config) (fs : List Frame) : Type 0 where
   pub frames : FramesOk p c.store fs
   pub bottom : EndsTop fs
 
+-- a state that keeps all this, and the sizes of the items of this store
+abbrev pub Later : ProgramTree → List Item → State → Type 0
+Later p st (Running c es) = Base p c c.frames × ControlOk p c.store c.control × KeepsSizes st c.store
+Later p st (Stopped c es) = KeepsSizes st c.store
+Later p st (Lost c es) = ⊥
+
 -- a state that keeps all this, with a store of at least this size
 abbrev pub After : ProgramTree → ℕ → State → Type 0
 After p n (Running c es) = Base p c c.frames × ControlOk p c.store c.control × (n ≤ made c.store)
@@ -191,12 +197,12 @@ pub store-set : (p : ProgramTree) (st : List Item) (l : ℕ) (old i : Item) → 
 store-set p st l old i e k h a m r q = clo_extends p st (slice_set st l i) m r (extends-set st l old i e k) (h a m r (set-closure st l old i a m r e k q))
 
 -- the results of steps
-pub go-ok : (p : ProgramTree) (c : Config) (k : Control) (fs : List Frame) (es : List Event) → Base p c fs → ControlOk p c.store k → After p (made c.store) (Reference.go c k fs es)
-go-ok p c k fs es b h = (record { store = b.store; globals = b.globals; frames = b.frames; bottom = b.bottom }, h, omega arith)
+pub go-ok : (p : ProgramTree) (c : Config) (k : Control) (fs : List Frame) (es : List Event) → Base p c fs → ControlOk p c.store k → Later p c.store (Reference.go c k fs es)
+go-ok p c k fs es b h = (record { store = b.store; globals = b.globals; frames = b.frames; bottom = b.bottom }, h, λ l. omega arith)
 
-pub go-with-ok : (p : ProgramTree) (c : Config) (k : Control) (fs : List Frame) (st : List Item) (es : List Event) → Base p c fs → Extends c.store st → StoreOk p st → ControlOk p st k → After p (made c.store) (Reference.go_with c k fs st es)
+pub go-with-ok : (p : ProgramTree) (c : Config) (k : Control) (fs : List Frame) (st : List Item) (es : List Event) → Base p c fs → Extends c.store st → StoreOk p st → ControlOk p st k → Later p c.store (Reference.go_with c k fs st es)
 go-with-ok p c k fs st es b e s h =
-    (record { store = s; globals = b.globals; frames = frames_extends p c.store st fs e b.frames; bottom = b.bottom }, h, e.grows)
+    (record { store = s; globals = b.globals; frames = frames_extends p c.store st fs e b.frames; bottom = b.bottom }, h, e.sizes_stay)
 
 pub base-push : (p : ProgramTree) (c : Config) (w : Work) (fs : List Frame) → Base p c fs → WorkOk p c.store w → Base p c (Reference.push w fs)
 base-push p c w fs b h = record { store = b.store; globals = b.globals; frames = (h, b.frames); bottom = above w _ b.bottom }

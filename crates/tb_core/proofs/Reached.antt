@@ -23,12 +23,12 @@ sum_first : (f : ℕ → ℕ) (n : ℕ) → sum_of f (below (suc n)) ≡ f 0 + s
 sum_first f zero = refl
 sum_first f (suc n) = let h = sum_first f n in omega arith
 
-sum_made : (st : List Item) → sum_of (size_at st) (below (length st)) ≡ made st
-sum_made [] = refl
-sum_made (i ∷ st) = let h = sum_first (size_at (i ∷ st)) (length st) in let k = sum_made st in omega arith
+pub sum-made : (st : List Item) → sum_of (size_at st) (below (length st)) ≡ made st
+sum-made [] = refl
+sum-made (i ∷ st) = let h = sum_first (size_at (i ∷ st)) (length st) in let k = sum-made st in omega arith
 
 pub space-within : (statics : ℕ) (c : Config) → space statics c ≤ own_words c + made c.store
 space-within statics c =
     let h = total-within (size_at c.store) (store_graph statics c) in
-    let k = sum_made c.store in
+    let k = sum-made c.store in
     omega arith

@@ -5,7 +5,7 @@ use Rattle.std.proofs.lemmas.Option.{same_Some}
 use Rattle.tb_semantics.specs.Graph.{IsIn}
 use Rattle.tb_core.specs.FreeVariables.{is_in}
 use Rattle.tb_core.specs.Store.{Value, At, Object, Pair, Vec, Str, Env, Item, Var, Obj, Clo, Holds, content_of, lookup, cut, bind_from, object_size, flat_size}
-use Rattle.tb_core.specs.Space.{made}
+use Rattle.tb_core.specs.Space.{size_at, made}
 use Rattle.tb_core.specs.Lists.{list_objects}
 use Rattle.tb_core.specs.Reference.{vars, located, list_items}
 use Rattle.tb_core.proofs.Members.{in-tested, tested-in}
@@ -29,14 +29,27 @@ covers-cut st zs ys r w h y i = let f = h y i in (f.0, cut-kept zs r y (tested-i
 pub covers-own : (st : List Item) (ys : List ℕ) (r : Env) → Covers st ys r → Covers st ys (cut ys r)
 covers-own st ys r h = covers-cut st ys ys r (λ y i. i) h
 
--- the second store has the variables and the procedures of the first where they were, and is no smaller
+-- what stands at a location of the first store is no smaller in the second
+abbrev pub KeepsSizes : List Item → List Item → Type 0
+KeepsSizes st now = (l : ℕ) → size_at st l ≤ size_at now l
+
+pub sizes-trans : (a b c : List Item) → KeepsSizes a b → KeepsSizes b c → KeepsSizes a c
+sizes-trans a b c h k l = let x = h l in let y = k l in omega arith
+
+-- so all that was made is no less
+pub sizes-made : (st now : List Item) → KeepsSizes st now → made st ≤ made now
+sizes-made [] now h = omega arith
+sizes-made (i ∷ st) [] h = let x = h 0 in let y = sizes-made st [] (λ l. h (suc l)) in omega arith
+sizes-made (i ∷ st) (j ∷ now) h = let x = h 0 in let y = sizes-made st now (λ l. h (suc l)) in omega arith
+
+-- the second store has the variables and the procedures of the first where they were, and its items keep their sizes
 pub record Extends (st now : List Item) : Type 0 where
   pub vars_stay : (l : ℕ) → VarAt st l → VarAt now l
   pub closures_stay : (l m : ℕ) (r : Env) → slice_get st l ≡ Some (Clo m r) → slice_get now l ≡ Some (Clo m r)
-  pub grows : made st ≤ made now
+  pub sizes_stay : KeepsSizes st now
 
 pub extends_refl : (st : List Item) → Extends st st
-extends_refl st = record { vars_stay = λ l h. h; closures_stay = λ l m r h. h; grows = omega arith }
+extends_refl st = record { vars_stay = λ l h. h; closures_stay = λ l m r h. h; sizes_stay = λ l. omega arith }
 
 pub covers-extends : (st now : List Item) (xs : List ℕ) (r : Env) → Extends st now → Covers st xs r → Covers now xs r
 covers-extends st now xs r e h y i = let f = h y i in (f.0, f.1, e.vars_stay f.0 f.2)
@@ -62,15 +75,16 @@ get-either [] is l i e = inr (got_in is l i e)
 get-either (x ∷ st) is zero i e = inl e
 get-either (x ∷ st) is (suc l) i e = get-either st is l i e
 
-made_more : (st is : List Item) → made st ≤ made (st ++ is)
-made_more [] is = omega arith
-made_more (i ∷ st) is = let h = made_more st is in omega arith
+sizes_append : (st is : List Item) (l : ℕ) → size_at st l ≤ size_at (st ++ is) l
+sizes_append [] is l = omega arith
+sizes_append (i ∷ st) is zero = omega arith
+sizes_append (i ∷ st) is (suc l) = sizes_append st is l
 
 pub extends-append : (st is : List Item) → Extends st (st ++ is)
 extends-append st is = record {
   vars_stay = λ l h. (h.0, get-left st is l (Var h.0) h.1);
   closures_stay = λ l m r h. get-left st is l (Clo m r) h;
-  grows = made_more st is;
+  sizes_stay = sizes_append st is;
 }
 
 -- an item that is changed into another of its kind and size
@@ -86,10 +100,12 @@ set-other (x ∷ st) zero (suc k) i ne = refl
 set-other (x ∷ st) (suc l) zero i ne = refl
 set-other (x ∷ st) (suc l) (suc k) i ne = set-other st l k i (λ e. ne (ap suc e))
 
-made_set : (st : List Item) (l : ℕ) (old i : Item) → slice_get st l ≡ Some old → flat_size old ≡ flat_size i → made (slice_set st l i) ≡ made st
-made_set [] l old i e s = cc
-made_set (x ∷ st) zero old i e s = ap (λ n. n + made st) (sym s ∙ sym (ap flat_size (same_Some x old e)))
-made_set (x ∷ st) (suc l) old i e s = ap (λ n. flat_size x + n) (made_set st l old i e s)
+sizes_set : (st : List Item) (l : ℕ) (old i : Item) → slice_get st l ≡ Some old → flat_size old ≡ flat_size i → (k : ℕ) → size_at st k ≤ size_at (slice_set st l i) k
+sizes_set [] l old i e s k = omega arith
+sizes_set (x ∷ st) zero old i e s zero = let h = ap flat_size (same_Some x old e) in omega arith
+sizes_set (x ∷ st) zero old i e s (suc k) = omega arith
+sizes_set (x ∷ st) (suc l) old i e s zero = omega arith
+sizes_set (x ∷ st) (suc l) old i e s (suc k) = sizes_set st l old i e s k
 
 -- the kinds of objects that a change keeps, with their sizes
 pub data SameObject : Object → Object → Type 0 where
@@ -139,7 +155,7 @@ extends-set st l old i e k = record {
       (λ q. absurd (kind_closure old i m r k (same_Some old (Clo m r) (sym e ∙ ap (slice_get st) (eqb-true l a q) ∙ h))))
       (λ q. set-other st l a i (eqb-false l a q) ∙ h)
       (cases_Bool (l == a));
-  grows = let s = made_set st l old i e (kind_size old i k) in omega arith;
+  sizes_stay = sizes_set st l old i e (kind_size old i k);
 }
 
 -- a procedure of the changed store was there before

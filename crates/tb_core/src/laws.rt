@@ -11,7 +11,7 @@ ghost use Rattle.tb_core.specs.Limits.{FewOperands, FewParameters, IsShort, judg
 ghost use Rattle.tb_core.specs.Lists.{walked};
 ghost use Rattle.tb_core.specs.OperandOrder.{HasLine, Line, order_of};
 ghost use Rattle.tb_core.specs.Partners.{AlikeEffects, AlikeLists, AlikeValues, AlikeWalks, Partnered, pairs_of};
-ghost use Rattle.tb_core.specs.Reference.{Config, State, Stopped, events_of, reference};
+ghost use Rattle.tb_core.specs.Reference.{Config, State, Stopped, config_of, events_of, reference};
 ghost use Rattle.tb_core.specs.Rules.{Each, EachAll, Every, KeepsRules};
 ghost use Rattle.tb_core.specs.Space.{made, made_of, own_words, size_at, space, store_graph};
 ghost use Rattle.tb_core.specs.Store.{Content, Env, Value, cut, lookup};
@@ -86,6 +86,13 @@ pub fn order_at_nodes()
 /// A run of a program that keeps its rules, in its own order, has a next step until it stops with End or Fail.
 pub fn no_run_is_lost()
     ensures law { (p : ProgramTree) (input : List ℕ) (n : ℕ) → KeepsRules p → IsNotLost (after (reference p (order_of p) input) n) }
+{}
+
+/// What stands at a location of the store keeps its size along a run: a static object is never smaller than it was.
+pub fn items_keep_their_sizes()
+    ensures law { (p : ProgramTree) (input : List ℕ) (n k l : ℕ) → KeepsRules p →
+        size_at (config_of (after (reference p (order_of p) input) n)).store l
+        ≤ size_at (config_of (after (reference p (order_of p) input) (n + k))).store l }
 {}
 
 /// What was made only grows along a run.
