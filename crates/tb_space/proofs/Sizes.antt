@@ -28,19 +28,19 @@ total_linear : (a b : ℕ) (size f g : ℕ → ℕ) (k : Graph) → ((x : ℕ) �
 unfolding total
 total_linear a b size f g k h = sum_linear a b size f g (kept (reaches k) (below k.count)) h
 
-frames_small : (bound : ℕ) (fs : List Frame) → Every (IsNarrow bound) fs → frame_words fs ≤ (bound + 2) * length fs
-frames_small bound [] h = omega arith
-frames_small bound (f ∷ fs) h =
-    let t = frames_small bound fs h.1 in let few = (h.0).few in
+pub frames-small : (bound : ℕ) (fs : List Frame) → Every (IsNarrow bound) fs → frame_words fs ≤ (bound + 2) * length fs
+frames-small bound [] h = omega arith
+frames-small bound (f ∷ fs) h =
+    let t = frames-small bound fs h.1 in let few = (h.0).few in
     let m = mul-add (bound + 2) 1 (length fs) in let o = mul_comm (bound + 2) 1 in
     let s : (bound + 2) * suc (length fs) ≡ (bound + 2) * (1 + length fs) = ap (λ n. (bound + 2) * n) (let e : suc (length fs) ≡ 1 + length fs = omega arith in e) in
     omega arith
 
 -- an object is no longer than its parts in the shape say
-object_fits : (bound : ℕ) (o : Option Word) → ((w : Word) → o ≡ Some w → IsSmall bound w) →
+pub object-fits : (bound : ℕ) (o : Option Word) → ((w : Word) → o ≡ Some w → IsSmall bound w) →
     object_size o ≤ (bound + 3) * closure_count o + 2 * data_size o
-object_fits bound None h = omega arith
-object_fits bound (Some (Header k n)) h =
+object-fits bound None h = omega arith
+object-fits bound (Some (Header k n)) h =
     ⊎_elim
     (λ e. let few = h (Header k n) refl (eqb-true k procedure_kind e) in
     let a : object_size (Some (Header k n)) ≡ padded_size (n + 2) = ap (λ b. cond b (padded_size (n + 2)) (others k n)) e in
@@ -65,17 +65,17 @@ object_fits bound (Some (Header k n)) h =
     others_few k n =
         either_few (k == string_kind) (padded_size (raw_size n + 1)) _ (2 * (n + 1)) (omega arith)
         (either_few (k == symbol_kind) (padded_size (raw_size n + 1)) (padded_size (n + 1)) (2 * (n + 1)) (omega arith) (omega arith))
-object_fits bound (Some (Fix n)) h = omega arith
-object_fits bound (Some (Special n)) h = omega arith
-object_fits bound (Some (Char n)) h = omega arith
-object_fits bound (Some (Pointer t n)) h = omega arith
-object_fits bound (Some (Code n)) h = omega arith
-object_fits bound (Some (Raw n)) h = omega arith
+object-fits bound (Some (Fix n)) h = omega arith
+object-fits bound (Some (Special n)) h = omega arith
+object-fits bound (Some (Char n)) h = omega arith
+object-fits bound (Some (Pointer t n)) h = omega arith
+object-fits bound (Some (Code n)) h = omega arith
+object-fits bound (Some (Raw n)) h = omega arith
 
 made_fits : (bound : ℕ) (c : Assembled) (m : Framed) → IsWithin bound m → (a : ℕ) →
     made_size c m a ≤ (bound + 3) * closure_count (slice_get m.heap a) + 2 * data_size (slice_get m.heap a)
 made_fits bound c m h a =
-    let o = object_fits bound (slice_get m.heap a) (λ w e. every-get (IsSmall bound) m.heap a w h.heap e) in
+    let o = object-fits bound (slice_get m.heap a) (λ w e. every-get (IsSmall bound) m.heap a w h.heap e) in
     no_more (nat_lt a (start_size c.parts)) _ _ o
   where
     no_more : (b : Bool) (x y : ℕ) → x ≤ y → cond b 0 x ≤ y
@@ -86,7 +86,7 @@ pub words-by-shape : (c : Assembled) (m : Framed) (bound : ℕ) → IsWithin bou
     machine_words c m ≤ 18 + (bound + 2) * (framed_shape c m).frames + (bound + 3) * (framed_shape c m).closures
     + 2 * (framed_shape c m).words + statics_size c.parts.statics
 words-by-shape c m bound h =
-    let f = frames_small bound m.frames h.frames in
+    let f = frames-small bound m.frames h.frames in
     let t = total_linear (bound + 3) 2 (made_size c m) (λ a. closure_count (slice_get m.heap a)) (λ a. data_size (slice_get m.heap a))
     (object_graph c m) (made_fits bound c m h) in
     let w = mul-add 2 (length c.parts.globals) (total (λ a. data_size (slice_get m.heap a)) (object_graph c m)) in omega arith
