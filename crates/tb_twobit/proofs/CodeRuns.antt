@@ -3,22 +3,21 @@ use Rattle.std.proofs.Common.{◌≡◌, ℕ, suc, ◌+◌, ◌*◌, ◌≤◌, 
 use Rattle.std.proofs.Math.Nat.{mul-le-mul_left}
 use Rattle.tb_prim.specs.declared.event.Event.{Event}
 use Rattle.tb_prim.specs.declared.event.Stop.{Stop}
-use Rattle.tb_semantics.specs.Keeps.{Keeps}
-use Rattle.tb_semantics.specs.Runs.{EmitsInOrder, Ends, IsPrefix, Machine, after}
-use Rattle.tb_semantics.proofs.RunLaws.{after-stays, prefix-after, prefix_refl}
-use Rattle.tb_semantics.proofs.SameEnd.{either_le}
+use Rattle.tb_semantics.specs.Keeps.{IsSameWindow, Keeps}
+use Rattle.tb_semantics.specs.Runs.{Ends, Machine, after}
 use Rattle.tb_core.specs.Events.{EndsLast, HasStopped, is_last}
 use Rattle.tb_core.specs.Measures.{reference_measured}
 use Rattle.tb_core.specs.OperandOrder.{order_of}
 use Rattle.tb_core.specs.Reference as ref
-use Rattle.tb_core.specs.Reference.{reference}
+use Rattle.tb_core.specs.Space.{made_of, space_of}
 use Rattle.tb_core.specs.Tree.{ProgramTree}
 use Rattle.tb_core.specs.Width.{square_sum}
 use Rattle.tb_mac.specs.Frames.{Framed}
 use Rattle.tb_mac.specs.FramedRuns.{FramedState, Runs as FramedRuns, Stays, flat_state, framed_events, framed_full, framed_machine, measured_machine}
 use Rattle.tb_mac.specs.Layout.{start_size}
+use Rattle.tb_mac.specs.LiveWords.{IsWalkable, machine_words}
 use Rattle.tb_mac.specs.MacEvents as mac
-use Rattle.tb_mac.specs.MacEvents.{MacState, Going, Halted, mac_machine}
+use Rattle.tb_mac.specs.MacEvents.{MacState, Going, Halted}
 use Rattle.tb_mac.specs.MacStep.{Mac}
 use Rattle.tb_macm.specs.RunDoes.{IsPassing}
 use Rattle.tb_macm.specs.declared.load.LoadRefusal.{LoadRefusal}
@@ -31,28 +30,37 @@ use Rattle.tb_twobit.specs.Refusals.{IsAccepted}
 use Rattle.tb_twobit.specs.Sinks.{Said, Sunk}
 use Rattle.tb_twobit.specs.GoDoes as does
 use Rattle.tb_twobit.specs.GoDoes.{GoDoes, HasFile, HasInput, NeedsNoMore, Outside, RunEnds, Runs, machine_of}
+use Rattle.tb_twobit.specs.SpaceSafe.{HasNarrowFactor, IsSmallMemory, IsSpaceSafe, IsWithinFactor, code_machine, factor_of, frames_after, reference_of}
 use Rattle.tb_twobit.specs.Statuses.{full_line, number}
 use Rattle.tb_twobit.specs.calls.Running.{Finishes}
+use Rattle.tb_twobit.proofs.ReferenceRuns.{ReferenceLaws, begins, still_stopped}
 
 -- what is known of code: the laws of the layers below, for one program, one memory and one input
 pub record CodeLaws (p : ProgramTree) (heap : ℕ) (input : List ℕ) : Type 0 where
+  pub reference : ReferenceLaws p input
   pub keeps : Keeps (measured_machine (program_code p) heap input) (reference_measured p (order_of p) input) 1
   pub stands : (n : ℕ) →
       (framed_machine (program_code p) heap input).step (after (framed_machine (program_code p) heap input) n)
       ≡ after (framed_machine (program_code p) heap input) n →
       framed_full (after (framed_machine (program_code p) heap input) n) ≡ false →
-      (m : ℕ) × HasStopped (after (reference p (order_of p) input) m)
+      (m : ℕ) × HasStopped (after (reference_of p input) m)
       × (framed_events (after (framed_machine (program_code p) heap input) n)
-      ≡ ref.events_of (after (reference p (order_of p) input) m))
+      ≡ ref.events_of (after (reference_of p input) m))
   pub flat : (n : ℕ) → flat_state (after (framed_machine (program_code p) heap input) n)
-      ≡ after (mac_machine (program_code p) heap input) n
-  pub ends_last : (n : ℕ) → EndsLast (after (reference p (order_of p) input) n)
-  pub in_order : EmitsInOrder (reference p (order_of p) input)
-  pub all_end : (es : List Event) → ((n : ℕ) → IsPrefix (ref.events_of (after (reference p (order_of p) input) n)) es) →
-      (n : ℕ) × HasStopped (after (reference p (order_of p) input) n)
+      ≡ after (code_machine p heap input) n
   pub quick : (n : ℕ) (m : Framed) (rest : List ℕ) (es : List Event) →
       after (framed_machine (program_code p) heap input) n ≡ FramedRuns m rest es →
       n < (8 * square_sum p + 10) * (length es + 1)
+  pub narrow : HasNarrowFactor p
+  pub walkable : (n : ℕ) → IsWalkable (program_code p) (frames_after p heap input n)
+  pub space : (n : ℕ) → (m : ℕ) × IsSameWindow (framed_machine (program_code p) heap input) (reference_of p input) n m
+      × IsWithinFactor (factor_of p) (machine_words (program_code p) (frames_after p heap input n))
+      (space_of p (after (reference_of p input) m))
+  pub small : (n : ℕ) → framed_full (after (framed_machine (program_code p) heap input) n) ≡ true →
+      (k : ℕ) × (l : ℕ) × IsSameWindow (framed_machine (program_code p) heap input) (reference_of p input) n k
+      × IsSameWindow (framed_machine (program_code p) heap input) (reference_of p input) n l
+      × (heap < factor_of p * (space_of p (after (reference_of p input) k) + made_of (after (reference_of p input) l))
+      + factor_of p)
 
 flat_events : (s : FramedState) → mac.events_of (flat_state s) ≡ framed_events s
 flat_events (FramedRuns m input es) = refl
@@ -85,7 +93,10 @@ module _ (go : Go) (p : ProgramTree) (input : List ℕ) (laws : CodeLaws p go.he
   abbrev at : ℕ → MacState
   at n = after (machine_of go p input) n
 
-  like_reference : (n : ℕ) → (m : ℕ) × (mac.events_of (at n) ≡ ref.events_of (after (reference p (order_of p) input) m))
+  abbrev source : Machine Event ref.State
+  source = reference_of p input
+
+  like_reference : (n : ℕ) → (m : ℕ) × (mac.events_of (at n) ≡ ref.events_of (after (reference_of p input) m))
   like_reference n =
       let w = (laws.keeps).windows n in
       (w.0, ap mac.events_of (sym (laws.flat n)) ∙ flat_events (after (framed_machine (program_code p) go.heap input) n) ∙ w.1)
@@ -108,44 +119,8 @@ module _ (go : Go) (p : ProgramTree) (input : List ℕ) (laws : CodeLaws p go.he
   never_stuck n m pc rest es e a =
       let s = stuck_stands (after (framed_machine (program_code p) go.heap input) n) m pc rest es (laws.flat n ∙ e) in
       let end = laws.stands n s.0 s.1 in
-      no_pass (after (reference p (order_of p) input) end.0) end.1 (laws.ends_last end.0)
+      no_pass (after source end.0) end.1 ((laws.reference).ends_last end.0)
       (subst (All IsPassing) (sym s.2 ∙ end.2) a)
-
-  -- where the reference has emitted all its events, every moment's are a beginning of them
-  abbrev source : Machine Event ref.State
-  source = reference p (order_of p) input
-
-  begins : (n : ℕ) (es : List Event) → Ends source n es → (m : ℕ) → IsPrefix (ref.events_of (after source m)) es
-  begins n es e m =
-      ⊎_elim
-      (λ le. let z : m + (n - m) ≡ n = omega arith in
-      subst (IsPrefix (ref.events_of (after source m))) (ap (λ k. ref.events_of (after source k)) z ∙ e.emitted)
-      (prefix-after source laws.in_order m (n - m)))
-      (λ ge. let z : n + (m - n) ≡ m = omega arith in
-      let same : ref.events_of (after source m) ≡ es =
-      ap (λ k. ref.events_of (after source k)) (sym z) ∙ ap ref.events_of (after-stays source n (m - n) (after source n) refl e.still) ∙ e.emitted in
-      subst (λ fs. IsPrefix fs es) (sym same) (prefix_refl es))
-      (either_le m n)
-
-  -- a run of the reference that stands still has stopped
-  still_stopped : (n : ℕ) (es : List Event) → Ends source n es → HasStopped (after source n)
-  still_stopped n es e =
-      let k = laws.all_end es (begins n es e) in
-      subst HasStopped (same_end k.0 k.1) k.1
-    where
-      stays_stopped : (s : ref.State) → HasStopped s → source.step s ≡ s
-      stays_stopped (ref.Running c fs) h = absurd h
-      stays_stopped (ref.Stopped c fs) h = refl
-      stays_stopped (ref.Lost c fs) h = absurd h
-
-      same_end : (k : ℕ) → HasStopped (after source k) → after source k ≡ after source n
-      same_end k h =
-          ⊎_elim
-          (λ le. let z : k + (n - k) ≡ n = omega arith in
-          sym (after-stays source k (n - k) (after source k) refl (stays_stopped (after source k) h)) ∙ ap (after source) z)
-          (λ ge. let z : n + (k - n) ≡ k = omega arith in
-          ap (after source) (sym z) ∙ after-stays source n (k - n) (after source n) refl e.still)
-          (either_le k n)
 
   -- a machine that goes on has emitted fewer events than a reference that has stopped
   goes_framed : (s : FramedState) (m : Mac) (rest : List ℕ) (es : List Event) → flat_state s ≡ Going m rest es →
@@ -158,7 +133,7 @@ module _ (go : Go) (p : ProgramTree) (input : List ℕ) (laws : CodeLaws p go.he
   fewer_events taken j n m rest es fs e a d l =
       let like = like_reference taken in
       let mine : es ≡ ref.events_of (after source like.0) = sym (ap mac.events_of e) ∙ like.1 in
-      let pre = begins n fs d like.0 in
+      let pre = begins p input laws.reference n fs d like.0 in
       let len : length (ref.events_of (after source like.0) ++ pre.rest) ≡ length fs = ap length pre.whole in
       let parts = length-append (ref.events_of (after source like.0)) pre.rest in
       let own : length es ≡ length (ref.events_of (after source like.0)) = ap length mine in
@@ -170,7 +145,7 @@ module _ (go : Go) (p : ProgramTree) (input : List ℕ) (laws : CodeLaws p go.he
       no_rest [] w k =
           let like = like_reference taken in
           let all : es ≡ fs = sym (ap mac.events_of e) ∙ like.1 ∙ sym (append-nil (ref.events_of (after source like.0))) ∙ w in
-          absurd (no_pass (after source n) (still_stopped n fs d) (laws.ends_last n) (subst (All IsPassing) (all ∙ sym d.emitted) a))
+          absurd (no_pass (after source n) (still_stopped p input laws.reference n fs d) ((laws.reference).ends_last n) (subst (All IsPassing) (all ∙ sym d.emitted) a))
 
   enough : (taken status : ℕ) (out diag : Sunk) → RunEnds p (at taken) taken go.steps out diag status →
       NeedsNoMore p input go.steps status
@@ -185,6 +160,45 @@ module _ (go : Go) (p : ProgramTree) (input : List ℕ) (laws : CodeLaws p go.he
       let most : (8 * square_sum p + 10) * (length fs + 1) ≤ (8 * square_sum p + 10) * suc j =
       mul-le-mul_left (8 * square_sum p + 10) (omega arith) in
       omega (arith, q, most, le, t)
+
+  -- each state of the run is safe for space
+  safe : (n : ℕ) → IsSpaceSafe p go.heap input n
+  safe n =
+      let w = laws.space n in record {
+        own_state = laws.flat n;
+        walkable = laws.walkable n;
+        moment = w.0;
+        same_window = ap mac.events_of (sym (laws.flat n)) ∙ flat_events (after (framed_machine (program_code p) go.heap input) n) ∙ w.1;
+        within = w.2;
+      }
+
+  -- a state whose request was refused is full
+  full_framed : (s : FramedState) (m : Mac) (h k need : ℕ) (rest : List ℕ) (es : List Event) →
+      flat_state s ≡ Halted m (Stop.Full h k need) rest es → framed_full s ≡ true
+  full_framed (FramedRuns x y z) m h k need rest es e = cc
+  full_framed (Stays x (Stop.Full h' k' n) y z) m h k need rest es e = refl
+  full_framed (Stays x (Stop.Stuck q) y z) m h k need rest es e = cc
+  full_framed (Stays x Stop.End y z) m h k need rest es e = cc
+  full_framed (Stays x (Stop.Fail c q) y z) m h k need rest es e = cc
+  full_framed (Stays x Stop.Steps y z) m h k need rest es e = cc
+  full_framed (Stays x Stop.ReadFault y z) m h k need rest es e = cc
+  full_framed (Stays x Stop.WriteFault y z) m h k need rest es e = cc
+
+  small_where : (taken : ℕ) → framed_full (after (framed_machine (program_code p) go.heap input) taken) ≡ true →
+      IsSmallMemory p go.heap input (mac.events_of (at taken))
+  small_where taken full =
+      let s = laws.small taken full in
+      let same = ap mac.events_of (sym (laws.flat taken)) ∙ flat_events (after (framed_machine (program_code p) go.heap input) taken) in
+      record { held = s.0; made = s.1; held_window = same ∙ s.2; made_window = same ∙ s.3; small = s.4 }
+
+  small_full : (taken status : ℕ) (out diag : Sunk) → RunEnds p (at taken) taken go.steps out diag status → status ≡ 7 →
+      IsSmallMemory p go.heap input (mac.events_of (at taken))
+  small_full taken _ out diag (does.ended rest front a b d) is = absurd (omega arith)
+  small_full taken _ out diag (does.not_put rest fs a b d q f h) is = absurd (omega arith)
+  small_full taken _ out diag (does.failed rest front c q a b d) is = absurd (omega arith)
+  small_full taken _ out diag (does.full {m = m} rest fs x y z a b d) is =
+      small_where taken (full_framed (after (framed_machine (program_code p) go.heap input) taken) m x y z rest fs (laws.flat taken ∙ a))
+  small_full taken _ out diag (does.out_of_steps rest fs a b d e) is = absurd (omega arith)
 
   -- how the run ends, by the stop that the interpreter gave
   run_ends : (taken : ℕ) (out diag : Sunk) (stop : Stop) (status : Status) → EndsWith (program_code p) (at taken) taken go.steps out stop →
@@ -213,18 +227,22 @@ module _ (go : Go) (p : ProgramTree) (input : List ℕ) (laws : CodeLaws p go.he
         put = r.put;
         ends = run_ends r.taken out diag stop status r.ends f;
         needs_no_more = enough r.taken (number status) out diag (run_ends r.taken out diag stop status r.ends f);
+        narrow = laws.narrow;
+        space_safe = λ n le. safe n;
+        small_where_full = small_full r.taken (number status) out diag (run_ends r.taken out diag stop status r.ends f);
       }
 
 -- the command on a text that was compiled, when it has run the code
 pub go_runs : (go : Go) (o : Outside) (bytes input : List ℕ) (p : ProgramTree) → HasFile o.files go.source bytes →
     IsAccepted bytes p → HasInput o.input input → (start_size (program_code p).parts + 64 ≤ go.heap → CodeLaws p go.heap input) →
+    start_size (program_code p).parts ≤ 2 * space_of p (reference_of p input).start + 1 →
     (ended : Result Stop LoadRefusal) (status : Status) →
     CodeDoes (program_code p) (record { heap = go.heap; steps = go.steps; input = input }) o.out ended →
     Finishes go.heap ended o.diag status → GoDoes go o (number status)
-go_runs go o bytes input p file a has laws (Ok stop) status d f =
+go_runs go o bytes input p file a has laws little (Ok stop) status d f =
     does.ran bytes input p file a has (code_runs go p input (laws d.0) o.out o.diag stop status d.1 f)
-go_runs go o bytes input p file a has laws (Err (LoadRefusal.HeapSmall pointer)) status d f =
+go_runs go o bytes input p file a has laws little (Err (LoadRefusal.HeapSmall pointer)) status d f =
     subst (GoDoes go o) (sym (ap number f.own))
-    (does.not_fitting bytes input p file a has d.0 d.2 (subst (λ n. Said o.diag (full_line n go.heap 64)) d.1 f.says))
-go_runs go o bytes input p file a has laws (Err LoadRefusal.NoMemory) status d f =
+    (does.not_fitting bytes input p file a has d.0 (let less = d.0 in omega (arith, less, little)) d.2 (subst (λ n. Said o.diag (full_line n go.heap 64)) d.1 f.says))
+go_runs go o bytes input p file a has laws little (Err LoadRefusal.NoMemory) status d f =
     subst (GoDoes go o) (sym (ap number f.own)) (does.no_memory d.1 f.silent)

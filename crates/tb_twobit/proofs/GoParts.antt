@@ -1,6 +1,6 @@
 -- Parts of what the command `go` does.
-use Rattle.std.proofs.Common.{◌≡◌, ℕ, List, arith, false}
-use Rattle.std.specs.Prelude.{Result, Ok, Err, IsErrAnd, MatchResult}
+use Rattle.std.proofs.Common.{◌≡◌, ℕ, List, arith, false, Option, Some, None}
+use Rattle.std.specs.Prelude.{IfSome, Result, Ok, Err, IsErrAnd, MatchResult}
 use Rattle.tb_core.specs.Tree.{ProgramTree}
 use Rattle.tb_expand.specs.Refusals as expand
 use Rattle.tb_expand.specs.Texts.{RefusesText}
@@ -59,7 +59,7 @@ is_not_usage go o _ (does.no_memory a b) e = omega arith
 is_not_usage go o _ (does.too_long a b d) e = omega arith
 is_not_usage go o _ (does.long_input bytes p a b d f g) e = omega arith
 is_not_usage go o _ (does.refused bytes r a b d f) e = omega arith
-is_not_usage go o _ (does.not_fitting bytes input p a b d f g h) e = omega arith
+is_not_usage go o _ (does.not_fitting bytes input p a b d f g h i) e = omega arith
 is_not_usage go o _ (does.ran bytes input p a b d r) e = run_is_not_usage _ _ _ _ _ _ _ r.ends e
 
 -- an error of which something is known
@@ -67,3 +67,8 @@ pub err_so : {T E : Type 0} (r : Result T E) (P : T → Type 0) (Q R : E → Typ
     ((e : E) → R e → Q e) → MatchResult r P Q
 err_so (Ok t) P Q R h f = absurd h
 err_so (Err e) P Q R h f = f e h
+
+-- what follows from what holds of a value, if there is one
+pub if_some_then : {A : Type 0} {P Q : A → Type 0} (o : Option A) → ((a : A) → P a → Q a) → IfSome o P → IfSome o Q
+if_some_then None h i = tt
+if_some_then (Some a) h i = h a i

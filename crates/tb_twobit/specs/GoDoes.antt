@@ -6,14 +6,13 @@ use Rattle.tb_prim.specs.declared.event.Event.{Event}
 use Rattle.tb_prim.specs.declared.event.Stop.{Stop}
 use Rattle.tb_base.specs.Outside.{Files, Rose, IsLonger}
 use Rattle.tb_semantics.specs.Runs.{Machine, after, Ends}
-use Rattle.tb_core.specs.OperandOrder.{order_of}
 use Rattle.tb_core.specs.Reference as ref
-use Rattle.tb_core.specs.Reference.{reference}
+use Rattle.tb_core.specs.Space.{space_of}
 use Rattle.tb_core.specs.Tree.{ProgramTree}
 use Rattle.tb_core.specs.Width.{square_sum}
 use Rattle.tb_mac.specs.Layout.{start_size}
 use Rattle.tb_mac.specs.MacEvents as mac
-use Rattle.tb_mac.specs.MacEvents.{MacState, Going, Halted, mac_machine}
+use Rattle.tb_mac.specs.MacEvents.{MacState, Going, Halted}
 use Rattle.tb_mac.specs.MacStep.{Mac, fetched}
 use Rattle.tb_macm.specs.RunDoes.{IsPassing, puts}
 use Rattle.tb_macm.specs.Steps.{byte_put}
@@ -22,6 +21,7 @@ use Rattle.tb_twobit.specs.declared.refusal.Refusal.{Refusal}
 use Rattle.tb_twobit.specs.Words.{Go}
 use Rattle.tb_twobit.specs.Refusals.{IsAccepted, IsRefusedWith}
 use Rattle.tb_twobit.specs.Sinks.{Sunk, Gained, Said}
+use Rattle.tb_twobit.specs.SpaceSafe.{HasNarrowFactor, IsSmallMemory, IsSpaceSafe, code_machine, reference_of}
 use Rattle.tb_twobit.specs.Statuses.{refused_line, failed_line, full_line}
 
 -- the most bytes of a source file, and of the input
@@ -44,13 +44,9 @@ pub record Outside : Type 0 where
   pub out : Sunk
   pub diag : Sunk
 
--- the reference machine of a program, in the order of its own lines, with this input
-abbrev pub reference_of : ProgramTree → List ℕ → Machine Event ref.State
-reference_of p input = reference p (order_of p) input
-
 -- the machine on the code of a program, in a memory of the heap's words
 abbrev pub machine_of : Go → ProgramTree → List ℕ → Machine Event MacState
-machine_of go p input = mac_machine (program_code p) go.heap input
+machine_of go p input = code_machine p go.heap input
 
 -- how a run ends, with its status: `taken` steps were made and led to `state`. No event but the last is an end or a
 -- failure. The machine is never without a next step.
@@ -82,7 +78,8 @@ NeedsNoMore p input steps status =
     (8 * square_sum p + 10) * suc j ≤ steps → status ≡ 8 → ⊥
 
 -- a run of the code of a program: at most so many steps, whose events are the reference's at some moment; the bytes
--- added to `out` are those that they put
+-- added to `out` are those that they put; each of its states holds at most K * S + K words, where the reference has
+-- space S at a moment with the same events; and memory is full only where it is small beside what that holds and has made
 pub record Runs (go : Go) (p : ProgramTree) (input : List ℕ) (out diag : Sunk) (status : ℕ) : Type 0 where
   pub taken : ℕ
   pub within : taken ≤ go.steps
@@ -92,6 +89,9 @@ pub record Runs (go : Go) (p : ProgramTree) (input : List ℕ) (out diag : Sunk)
   pub put : Gained out (puts (mac.events_of (after (machine_of go p input) taken)))
   pub ends : RunEnds p (after (machine_of go p input) taken) taken go.steps out diag status
   pub needs_no_more : NeedsNoMore p input go.steps status
+  pub narrow : HasNarrowFactor p
+  pub space_safe : (n : ℕ) → n ≤ taken → IsSpaceSafe p go.heap input n
+  pub small_where_full : status ≡ 7 → IsSmallMemory p go.heap input (mac.events_of (after (machine_of go p input) taken))
 
 -- a store holds these bytes under a name, where it tells what it holds, and they are not too many
 pub record HasFile (files : Option Files) (name bytes : List ℕ) : Type 0 where
@@ -122,9 +122,11 @@ pub data GoDoes (go : Go) (o : Outside) : ℕ → Type 0 where
   -- status 1 where the text is refused, with the line of its first refusal
   refused : (bytes : List ℕ) (r : Refusal) → HasFile o.files go.source bytes → IsRefusedWith bytes r →
       Gained o.out [] → Said o.diag (refused_line r) → GoDoes go o 1
-  -- status 7 where the globals and static objects with 64 further words do not fit
+  -- status 7 where the globals and static objects with 64 further words do not fit, and so memory has fewer than twice
+  -- the words of the reference's space at its start and 65
   not_fitting : (bytes input : List ℕ) (p : ProgramTree) → HasFile o.files go.source bytes → IsAccepted bytes p →
-      HasInput o.input input → go.heap < start_size (program_code p).parts + 64 → Gained o.out [] →
+      HasInput o.input input → go.heap < start_size (program_code p).parts + 64 →
+      go.heap < 2 * space_of p (reference_of p input).start + 65 → Gained o.out [] →
       Said o.diag (full_line (start_size (program_code p).parts) go.heap 64) → GoDoes go o 7
   -- the others come from a run of the file's program
   ran : {status : ℕ} (bytes input : List ℕ) (p : ProgramTree) → HasFile o.files go.source bytes → IsAccepted bytes p →

@@ -1,7 +1,8 @@
 -- The statuses in which a call ends, and the lines that go with them.
-use Rattle.std.specs.Prelude.{ℕ, Bool, true, false, List, [], ◌∷◌, ◌++◌, codes, decimal}
+use Rattle.std.specs.Prelude.{ℕ, Bool, true, false, List, [], ◌∷◌, codes, decimal}
 use Rattle.tb_prim.specs.declared.place.Place.{Place}
 use Rattle.tb_prim.specs.declared.event.Cause.{Cause}
+use Rattle.tb_lines.specs.Lines.{joined}
 use Rattle.tb_twobit.specs.declared.status.Status.{Status}
 use Rattle.tb_twobit.specs.declared.status.Status.TheVariants.{Done, Refused, Usage, NotLoaded, NotPut, NoMemory, Failed, Full, OutOfSteps, Stuck, TooLong}
 use Rattle.tb_twobit.specs.declared.refusal.Refusal.{Refusal}
@@ -50,11 +51,6 @@ refusal_number kind.Duplicate = 112
 refusal_number kind.Budget = 113
 refusal_number kind.NotInProfile = 114
 refusal_number kind.NotBuilt = 115
-
--- some texts, one after another
-abbrev pub joined : List (List ℕ) → List ℕ
-joined [] = []
-joined (t ∷ ts) = t ++ joined ts
 
 -- `lib ` stands before a place in the library
 abbrev pub library_text : Bool → List ℕ

@@ -16,6 +16,10 @@ use super::run::finish;
 use super::status::Status;
 use std::alloc::Global;
 use tb_base::{LoadFault, Sink, Source, Store, take_all};
+use tb_bounds::laws::{
+    bounds_are_narrow, code_is_space_safe, full_only_when_small, loading_wants_little,
+    states_are_walkable,
+};
 use tb_core::laws::{all_events_end, emits_in_order, ends_last};
 use tb_mac::laws::framed_runs_are_flat;
 use tb_passes::laws::{
@@ -74,6 +78,11 @@ pub fn go<S: Store, I: Source, O: Sink, E: Sink>(
     all_events_end();
     emits_in_order();
     ends_last();
+    code_is_space_safe();
+    states_are_walkable();
+    bounds_are_narrow();
+    full_only_when_small();
+    loading_wants_little();
     let text = match store.load(alloc, source, SOURCE_LIMIT) {
         Ok(text) => text,
         Err(fault) => return missing(fault),

@@ -2,7 +2,10 @@
 
 ghost use Rattle.std.specs.Prelude.{◌≡◌, ◌⊎◌, ℕ, List};
 ghost use Rattle.tb_core.specs.Tree.{ProgramTree};
+ghost use Rattle.tb_twobit.specs.Complete.{ComesToEnd};
+ghost use Rattle.tb_twobit.specs.GoDoes.{GoDoes, Outside};
 ghost use Rattle.tb_twobit.specs.Refusals.{IsAccepted, IsRefusedWith};
+ghost use Rattle.tb_twobit.specs.Words.{Go};
 ghost use Rattle.tb_twobit.specs.declared.refusal.Refusal.{Refusal};
 
 use tb_expand::one_answer_a_text as one_meaning_a_text;
@@ -17,4 +20,16 @@ pub fn one_answer_a_text()
 {
     texts_read_one_way();
     one_meaning_a_text();
+}
+
+/// Where the text is accepted, its reference machine ends or fails, nothing fails outside, and memory and steps are enough,
+/// what `go` does is that the program comes to its end and puts its whole output; or the compiler wants memory.
+pub fn enough_comes_to_the_end()
+    ensures law { (go : Go) (o : Outside) (status : ℕ) → GoDoes go o status → ComesToEnd go o status }
+{
+    one_answer_a_text();
+    tb_core::laws::all_events_end();
+    tb_core::laws::emits_in_order();
+    tb_core::laws::ends_last();
+    tb_expand::numbered_programs_keep_rules();
 }

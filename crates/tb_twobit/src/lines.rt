@@ -1,14 +1,15 @@
 //! The lines of `diag`.
 
-ghost use Rattle.std.specs.Prelude.{◌≡◌, ◌≤◌, map};
+ghost use Rattle.std.specs.Prelude.{◌≡◌, ◌≤◌};
 ghost use Rattle.tb_base.specs.Outside.{HasCause, PutsAll};
 ghost use Rattle.tb_twobit.specs.Sinks.{Said, sunk};
 ghost use Rattle.tb_twobit.specs.Statuses as statuses;
-ghost use Rattle.tb_twobit.specs.Statuses.{joined, placed_line, refused_line, failed_line, full_line};
+ghost use Rattle.tb_twobit.specs.Statuses.{placed_line, refused_line, failed_line, full_line};
 
 use super::refusal::Refusal;
 use itoa::Buffer;
-use tb_base::{Failed, Sink, put_all};
+use tb_base::{Failed, Sink};
+use tb_lines::put_parts;
 use tb_prim::{Cause, Place};
 
 /// Says why and where a text is refused. A fault of `diag` changes nothing.
@@ -82,18 +83,4 @@ fn library_text(library: bool) -> &'static [u8]
     ensures { result.now ≡ statuses.library_text library }
 {
     if library { b"lib " } else { b"" }
-}
-
-/// Puts the texts, one after another.
-fn put_parts<E: Sink>(diag: &mut E, parts: &[&[u8]]) -> Result<(), Failed>
-    ensures bytes { PutsAll (E.held diag.old) (E.held diag.new) (joined (map (λ part. part.now) parts.now)) result }
-    ensures cause { HasCause (E.faults diag.old) (E.faults diag.new) result }
-{
-    for part in parts {
-        match put_all(diag, part) {
-            Ok(()) => {}
-            Err(failed) => return Err(failed),
-        }
-    }
-    Ok(())
 }

@@ -2,11 +2,13 @@
 
 ghost use Rattle.std.specs.Prelude.{◌≡◌, ◌≤◌, ◌↔◌, map, None, IfSome};
 ghost use Rattle.tb_base.specs.Outside.{CountsOnly, SameCounts};
+ghost use Rattle.tb_twobit.specs.Complete.{ComesToEnd};
 ghost use Rattle.tb_twobit.specs.GoDoes.{GoDoes};
 ghost use Rattle.tb_twobit.specs.Sinks.{sunk};
 ghost use Rattle.tb_twobit.specs.Words.{command_of};
 
 use super::go::go;
+use super::laws::enough_comes_to_the_end;
 use super::status::Status;
 use super::words::{Command, asked_for};
 use std::alloc::Global;
@@ -35,6 +37,18 @@ pub fn twobit<S: Store, I: Source, O: Sink, E: Sink>(
       diag = sunk E.held E.faults diag.old diag.new;
     }) result) }
 
+    // With memory and steps enough, an accepted text comes to the end of its program.
+    ensures complete { IfSome (command_of (map (λ w. w.now) words.now)) (λ command. ComesToEnd command (record {
+      files = S.files store.old;
+      loads = S.load_faults store.old command.source;
+      loads_now = S.load_faults store.new command.source;
+      input = I.left input.old;
+      reads = I.faults input.old;
+      reads_now = I.faults input.new;
+      out = sunk O.held O.faults out.old out.new;
+      diag = sunk E.held E.faults diag.old diag.new;
+    }) result) }
+
     // With words that are no command nothing is put, said, loaded or read.
     ensures nothing_put { result ≡ 2 → out.new ≡ out.old }
     ensures nothing_said { result ≡ 2 → diag.new ≡ diag.old }
@@ -50,6 +64,7 @@ pub fn twobit<S: Store, I: Source, O: Sink, E: Sink>(
     ensures later { O.faults out.old ≤ O.faults out.new }
     ensures diag_later { E.faults diag.old ≤ E.faults diag.new }
 {
+    enough_comes_to_the_end();
     match asked_for(words) {
         Some(Command::Go { source, limits }) => {
             go(alloc, source, limits, store, input, out, diag).number()

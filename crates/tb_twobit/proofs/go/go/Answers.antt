@@ -76,14 +76,21 @@ returns-clause-does g c =
     (λ room.
     let long = length_start_words (program_code p).parts in
     record {
+      reference = record {
+        ends_last = c.ends_last.ensures.law p (order_of p) input;
+        in_order = c.emits_in_order.ensures.step p (order_of p) input;
+        all_end = λ es h. c.all_events_end.ensures.law p input es ok.rules h;
+      };
       keeps = c.code_keeps_the_reference_machine.ensures.law p ok heap input;
       stands = c.code_stands_still_at_the_end.ensures.law p ok heap input;
       flat = λ n. c.framed_runs_are_flat.ensures.law (program_code p) heap input n (omega arith);
-      ends_last = c.ends_last.ensures.law p (order_of p) input;
-      in_order = c.emits_in_order.ensures.step p (order_of p) input;
-      all_end = λ es h. c.all_events_end.ensures.law p input es ok.rules h;
       quick = c.code_is_quick.ensures.law p ok heap input;
+      narrow = c.bounds_are_narrow.ensures.law p ok;
+      walkable = c.states_are_walkable.ensures.law p ok heap input;
+      space = c.code_is_space_safe.ensures.law p ok heap input;
+      small = c.full_only_when_small.ensures.law p ok heap input;
     })
+    (c.loading_wants_little.ensures.law p input)
     c.run_code-ended.result c.finish.result
     (subst
     (λ (code : Assembled). CodeDoes code (record { heap = heap; steps = c.args.limits.steps; input = input })

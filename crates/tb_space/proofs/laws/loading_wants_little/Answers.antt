@@ -1,5 +1,0 @@
-use Rattle.tb_space.proofs.ReferenceSpace.{start-within}
-use Rattle.tb_space.proofs.laws.loading_wants_little.Goals as goal
-
-pub returns : goal.returns
-returns c = record { law = start-within }

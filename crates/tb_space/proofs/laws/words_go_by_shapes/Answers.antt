@@ -1,5 +1,0 @@
-use Rattle.tb_space.proofs.Sizes.{words-by-shape}
-use Rattle.tb_space.proofs.laws.words_go_by_shapes.Goals as goal
-
-pub returns : goal.returns
-returns c = record { law = words-by-shape }
