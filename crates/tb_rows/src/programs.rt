@@ -5,7 +5,7 @@ use std::test::Fail;
 
 /// A program with its input, and its output, line and status in a heap of 65,536 words.
 #[derive(Drop)]
-struct Row<'a> {
+pub(super) struct Row<'a> {
     text: &'a [u8],
     input: &'a [u8],
     out: &'a [u8],
@@ -36,7 +36,7 @@ fn fails<'a>(text: &'a [u8], out: &'a [u8], diag: &'a [u8]) -> Row<'a> {
 }
 
 /// A program that puts this where it has this input.
-fn reads<'a>(text: &'a [u8], input: &'a [u8], out: &'a [u8]) -> Row<'a> {
+pub(super) fn reads<'a>(text: &'a [u8], input: &'a [u8], out: &'a [u8]) -> Row<'a> {
     Row {
         text,
         input,
@@ -46,7 +46,8 @@ fn reads<'a>(text: &'a [u8], input: &'a [u8], out: &'a [u8]) -> Row<'a> {
     }
 }
 
-fn holds(alloc: Global, row: &Row) -> Result<bool, Fail> {
+/// Whether the program puts, says and ends as its row says.
+pub(super) fn holds(alloc: Global, row: &Row) -> Result<bool, Fail> {
     let go = ["go", "mac", "a.scm", "65536", "100000000"];
     let world = World {
         input: row.input,
