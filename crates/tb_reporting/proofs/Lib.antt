@@ -1,0 +1,4 @@
+pub mod Lengths
+pub mod Reporting
+pub mod UnderWay
+pub mod Endings
