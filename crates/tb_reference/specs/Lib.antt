@@ -1,0 +1,3 @@
+pub mod Locations
+pub mod Environments
+pub mod Examples
