@@ -1,0 +1,6 @@
+pub mod Mentions
+pub mod Procedures
+pub mod Added
+pub mod Liftable
+pub mod Examples
+pub mod calls

@@ -1,0 +1,4 @@
+pub mod Given
+pub mod Reached
+pub mod Place
+pub mod Uses
