@@ -1,0 +1,15 @@
+pub mod Environments
+pub mod Rel
+pub mod Uses
+pub mod Grow
+pub mod Scopes
+pub mod Match
+pub mod Shape
+pub mod Base
+pub mod Simple
+pub mod Operands
+pub mod Nodes
+pub mod Closures
+pub mod Entries
+pub mod Arranged
+pub mod Calls
