@@ -1,0 +1,11 @@
+pub mod Names
+pub mod Rules
+pub mod Patterns
+pub mod Templates
+pub mod Compiled
+pub mod View
+pub mod Examples
+pub mod Parts
+pub mod Matching
+pub mod Uses
+pub mod Instances
