@@ -1,0 +1,105 @@
+//! The values of primitives at the edges of their ranges, and the order of their checks.
+
+use super::runs::first_wrong;
+use std::test::Fail;
+
+#[test]
+fn numbers(rt: HostRuntime) -> Result<(), Fail> {
+    let rows = &[
+        "set 1 536870910; set 2 1; op2 3 1 2 +; end -> end, r 3 536870911, r 1 536870910, r 2 1",
+        "set 1 536870911; set 2 1; op2 3 1 2 +; end -> fail overflow 2, r 3 0",
+        "set 1 -536870911; set 2 -1; op2 1 1 2 +; end -> end, r 1 -536870912",
+        "set 1 -536870912; set 2 -1; op2 3 1 2 +; end -> fail overflow 2",
+        "set 1 536870911; set 2 -536870912; op2 3 1 2 +; end -> end, r 3 -1",
+        "set 1 -536870911; set 2 1; op2 3 1 2 -; end -> end, r 3 -536870912",
+        "set 1 -536870912; set 2 1; op2 3 1 2 -; end -> fail overflow 2",
+        "set 1 -1; set 2 -536870912; op2 3 1 2 -; end -> end, r 3 536870911",
+        "set 1 0; set 2 -536870912; op2 3 1 2 -; end -> fail overflow 2",
+        "set 1 2; set 2 7; op2 3 1 2 -; op2 4 2 1 -; end -> end, r 3 -5, r 4 5",
+        "set 1 23170; set 2 23170; op2 3 1 2 *; end -> end, r 3 536848900",
+        "set 1 23170; set 2 23171; op2 3 1 2 *; end -> fail overflow 2",
+        "set 1 -32768; set 2 16384; op2 3 1 2 *; end -> end, r 3 -536870912",
+        "set 1 32768; set 2 16384; op2 3 1 2 *; end -> fail overflow 2",
+        "set 1 65536; set 2 65536; op2 3 1 2 *; end -> fail overflow 2",
+        "set 1 -536870912; set 2 -1; op2 3 1 2 *; end -> fail overflow 2",
+        "set 1 -536870912; set 2 -536870912; op2 3 1 2 *; end -> fail overflow 2",
+        "set 1 -536870912; set 2 0; op2 3 1 2 *; end -> end, r 3 0",
+        "set 1 7; set 2 2; op2 3 1 2 quotient; set 2 -2; op2 4 1 2 quotient; end -> end, r 3 3, r 4 -3",
+        "set 1 -7; set 2 2; op2 3 1 2 quotient; set 2 -2; op2 4 1 2 quotient; end -> end, r 3 -3, r 4 3",
+        "set 1 -536870912; set 2 -1; op2 3 1 2 quotient; end -> fail overflow 2",
+        "set 1 -536870912; set 2 1; op2 3 1 2 quotient; end -> end, r 3 -536870912",
+        "set 1 -536870912; op2 3 1 2 quotient; end -> fail zero-divide 1",
+        "set 1 #f; op2 3 1 2 quotient; end -> fail wrong-type 1",
+        "set 2 #f; op2 3 1 2 quotient; end -> fail wrong-type 1",
+        "set 1 13; set 2 4; op2 3 1 2 remainder; op2 4 1 2 modulo; end -> end, r 3 1, r 4 1",
+        "set 1 -13; set 2 4; op2 3 1 2 remainder; op2 4 1 2 modulo; end -> end, r 3 -1, r 4 3",
+        "set 1 13; set 2 -4; op2 3 1 2 remainder; op2 4 1 2 modulo; end -> end, r 3 1, r 4 -3",
+        "set 1 -13; set 2 -4; op2 3 1 2 remainder; op2 4 1 2 modulo; end -> end, r 3 -1, r 4 -1",
+        "set 1 -12; set 2 4; op2 3 1 2 remainder; op2 4 1 2 modulo; end -> end, r 3 0, r 4 0",
+        "set 1 -536870912; set 2 -1; op2 3 1 2 remainder; op2 4 1 2 modulo; end -> end, r 3 0, r 4 0",
+        "set 1 -536870912; set 2 536870911; op2 3 1 2 remainder; op2 4 1 2 modulo; end -> end, r 3 -1, r 4 536870910",
+        "set 1 5; op2 3 1 2 remainder; end -> fail zero-divide 1",
+        "set 1 5; op2 3 1 2 modulo; end -> fail zero-divide 1",
+        "set 1 #f; op2 3 1 2 remainder; end -> fail wrong-type 1",
+        "set 1 #f; op2 3 1 2 modulo; end -> fail wrong-type 1",
+        "set 1 1; set 2 2; op2 3 1 2 =; op2 4 2 1 =; op2 5 2 2 =; end -> end, r 3 #f, r 4 #f, r 5 #t",
+        "set 1 1; set 2 2; op2 3 1 2 <; op2 4 2 1 <; op2 5 2 2 <; end -> end, r 3 #t, r 4 #f, r 5 #f",
+        "set 1 1; set 2 2; op2 3 1 2 >; op2 4 2 1 >; op2 5 2 2 >; end -> end, r 3 #f, r 4 #t, r 5 #f",
+        "set 1 1; set 2 2; op2 3 1 2 <=; op2 4 2 1 <=; op2 5 2 2 <=; end -> end, r 3 #t, r 4 #f, r 5 #t",
+        "set 1 1; set 2 2; op2 3 1 2 >=; op2 4 2 1 >=; op2 5 2 2 >=; end -> end, r 3 #f, r 4 #t, r 5 #t",
+        "set 1 -1; set 2 1; op2 3 1 2 =; op2 4 1 2 <; op2 5 1 2 >; op2 6 1 2 <=; op2 7 1 2 >=; end -> end, r 3 #f, r 4 #t, r 5 #f, r 7 #f",
+        "set 1 -536870912; set 2 536870911; op2 3 1 2 <; op2 4 2 1 <; op2 5 1 2 >=; end -> end, r 3 #t, r 4 #f, r 5 #f",
+    ];
+    assert_eq!(rt; first_wrong(rt.alloc(), "", rows, &[])?, None);
+    Ok(())
+}
+
+#[test]
+fn objects(rt: HostRuntime) -> Result<(), Fail> {
+    let rows = &[
+        "set 1 5; set 2 6; op2 3 1 2 cons; op1 4 3 car; op1 5 3 cdr; end -> end, r 3 pair 16, r 4 5, r 5 6, m 16 5 6, pointers 18 1024",
+        "stat 1 1 0; set 2 9; op2 3 1 2 set-car!; end -> end, r 3 unspecified, m 3 0 9 2 header 34 5",
+        "stat 1 1 0; set 2 9; op2 3 1 2 set-cdr!; end -> end, r 3 unspecified, m 3 0 1 9 header 34 5",
+        "op2 1 0 0 cons; op2 2 0 0 cons; op2 3 1 2 eq?; op2 4 1 1 eq?; end -> end, r 1 pair 16, r 2 pair 18, r 3 #f, r 4 #t",
+        "set 1 char 65; set 2 char 65; op2 3 1 2 eq?; set 2 char 66; op2 4 1 2 eq?; end -> end, r 3 #t, r 4 #f",
+        "set 1 -7; set 2 -7; op2 3 1 2 eq?; set 2 7; op2 4 1 2 eq?; end -> end, r 3 #t, r 4 #f",
+        "set 1 char 0; op1 2 1 char->integer; set 1 char 255; op1 3 1 char->integer; end -> end, r 2 0, r 3 255",
+        "set 1 0; op1 2 1 integer->char; set 1 255; op1 3 1 integer->char; end -> end, r 2 char 0, r 3 char 255",
+        "set 1 256; op1 2 1 integer->char; end -> fail range 1",
+        "set 1 -1; op1 2 1 integer->char; end -> fail range 1",
+        "stat 1 3 3; op2 3 1 2 vector-ref; set 2 2; op2 4 1 2 vector-ref; end -> end, r 3 7, r 4 char 65",
+        "stat 1 3 3; set 2 3; op2 3 1 2 vector-ref; end -> fail range 2",
+        "stat 1 3 3; set 2 -1; op2 3 1 2 vector-ref; end -> fail range 2",
+        "stat 1 3 3; set 2 #f; op2 3 1 2 vector-ref; end -> fail wrong-type 2",
+        "set 2 3; op2 3 1 2 vector-ref; end -> fail wrong-type 1",
+        "op1 1 0 %make-vector; op1 3 1 vector-length; op2 4 1 0 vector-ref; end -> fail range 2, r 1 vector 16, r 3 0",
+        "stat 1 3 3; set 2 1; set 3 9; op3 1 2 3 vector-set!; end -> end, r 16 unspecified, r 3 9, m 12 header 18 3 7 9 char 65",
+        "stat 1 3 3; set 2 2; set 3 9; op3 1 2 3 vector-set!; end -> end, m 12 header 18 3 7 pair 4 9",
+        "stat 1 3 3; set 2 3; op3 1 2 3 vector-set!; end -> fail range 2, r 16 0",
+        "stat 1 3 3; set 2 -1; op3 1 2 3 vector-set!; end -> fail range 2",
+        "set 2 3; op3 1 2 3 vector-set!; end -> fail wrong-type 1",
+        "stat 1 5 1; op2 3 1 2 string-ref; set 2 3; op2 4 1 2 string-ref; end -> end, r 3 char 97, r 4 char 100",
+        "stat 1 5 1; set 2 4; op2 3 1 2 string-ref; set 2 5; op2 4 1 2 string-ref; end -> fail range 4, r 3 char 101",
+        "stat 1 5 1; set 2 -1; op2 3 1 2 string-ref; end -> fail range 2",
+        "stat 1 5 2; set 2 9; op2 3 1 2 string-ref; end -> fail wrong-type 2",
+        "stat 1 5 1; set 2 1; set 3 char 66; op3 1 2 3 string-set!; end -> end, r 16 unspecified, m 6 header 34 5 raw 97 66 99 100 raw 101 0 0 0",
+        "stat 1 5 1; set 2 4; set 3 char 255; op3 1 2 3 string-set!; end -> end, m 6 header 34 5 raw 97 98 99 100 raw 255 0 0 0",
+        "stat 1 5 1; set 2 5; set 3 char 66; op3 1 2 3 string-set!; end -> fail range 3, m 7 raw 97 98 99 100 raw 101 0 0 0",
+        "stat 1 5 1; set 2 -1; set 3 char 66; op3 1 2 3 string-set!; end -> fail range 3",
+        "stat 1 5 1; set 2 9; op3 1 2 3 string-set!; end -> fail wrong-type 2",
+        "stat 1 5 1; set 2 #f; set 3 char 66; op3 1 2 3 string-set!; end -> fail wrong-type 3",
+        "stat 1 5 2; set 3 char 66; op3 1 2 3 string-set!; end -> fail wrong-type 2",
+        "stat 1 5 2; set 2 2; op2 3 1 2 %symbol-ref; set 2 3; op2 4 1 2 %symbol-ref; end -> fail range 4, r 3 char 122",
+        "stat 1 5 2; set 2 -1; op2 3 1 2 %symbol-ref; end -> fail range 2",
+        "stat 1 5 1; set 2 9; op2 3 1 2 %symbol-ref; end -> fail wrong-type 2",
+        "set 1 -1; op1 2 1 %make-vector; end -> fail range 1",
+        "set 1 16777216; op1 2 1 %make-vector; end -> fail range 1",
+        "set 1 16777215; op1 2 1 %make-vector; end -> full 16 1024 16777216",
+        "set 1 -1; op1 2 1 %make-string; end -> fail range 1",
+        "set 1 16777216; op1 2 1 %make-string; end -> fail range 1",
+        "set 1 16777215; op1 2 1 %make-string; end -> full 16 1024 4194306",
+        "op0 1 %unspecified; end -> end, r 1 unspecified, events",
+    ];
+    assert_eq!(rt; first_wrong(rt.alloc(), "", rows, &[])?, None);
+    Ok(())
+}
