@@ -2,8 +2,12 @@
 #![tactic(auto)]
 
 #[cfg(test)]
+mod definitions;
+#[cfg(test)]
 mod examples;
 #[cfg(test)]
 mod programs;
+#[cfg(test)]
+mod reports;
 #[cfg(test)]
 mod tests;

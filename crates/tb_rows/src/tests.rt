@@ -258,7 +258,7 @@ fn refused_texts(rt: HostRuntime) -> Result<(), Fail> {
 
 #[test]
 fn words_and_steps(rt: HostRuntime) -> Result<(), Fail> {
-    let rows: [(&[&str], u8); 13] = [
+    let rows: [(&[&str], u8); 19] = [
         (&[], 2),
         (&["go", "vax", "a.scm", "4096", "1"], 2),
         (&["go", "mac", "a.scm", "1023", "1"], 2),
@@ -273,6 +273,18 @@ fn words_and_steps(rt: HostRuntime) -> Result<(), Fail> {
         (&["go", "mac", "a.scm", "1024", "5"], 0),
         (&["go", "mac", "a.scm", "1024", "6"], 0),
         (&["go", "mac", "a.scm", "1024"], 2),
+        (&["go", "mac", "a.scm", "1024", "6", "1"], 2),
+        (&["space", "mac", "a.scm", "1024", "6"], 2),
+        (&["space", "mac", "a.scm", "1024", "6", "0"], 2),
+        (&["space", "mac", "a.scm", "1024", "4", "1"], 8),
+        (
+            &["space", "mac", "a.scm", "1024", "6", "18446744073709551615"],
+            0,
+        ),
+        (
+            &["space", "mac", "a.scm", "1024", "6", "18446744073709551616"],
+            2,
+        ),
     ];
     for (words, status) in &rows {
         let outcome = called(rt.alloc(), words, b"(write-char #\\a)", &[], &[])?;
@@ -379,6 +391,25 @@ fn limits_of_texts(rt: HostRuntime) -> Result<(), Fail> {
             1,
             wide.as_slice(),
             b"refused 111 1:1\n",
+            1
+        )?,
+        true
+    );
+    // The sum of the squares is at its limit before the last form, whose parameters are judged before its width.
+    let widths = [998, 218, 11];
+    let mut parts = Vec::new(rt.alloc());
+    for width in widths {
+        let ones = repeated(rt.alloc(), b" 1", width, b")\n")?;
+        parts.extend_from_slice(b"(let ()")?;
+        parts.extend_from_slice(ones.as_slice())?;
+    }
+    assert_eq!(rt;
+        repeated_gives(
+            rt.alloc(),
+            parts.as_slice(),
+            1,
+            b"(define x 1)\n1\n1\n1\n(lambda (a b c d e f g h i j k l m) a)",
+            b"refused 109 8:1\n",
             1
         )?,
         true

@@ -1,248 +1,135 @@
--- A run of code that keeps the reference machine comes to a status of the command.
-use Rattle.std.proofs.Common.{◌≡◌, ℕ, suc, ◌+◌, ◌*◌, ◌≤◌, ◌<◌, ◌++◌, length, length-append, Result, Ok, Err, List, [], ◌∷◌, All, refl, sym, ap, ◌∙◌, subst, false, true, slice_index_or, ◌-◌, ⊎_elim, append-nil, arith}
-use Rattle.std.proofs.Math.Nat.{mul-le-mul_left}
-use Rattle.tb_prim.specs.declared.event.Event.{Event}
+-- A run of code comes to a status of the command, by the stop that the interpreter gave.
+use Rattle.std.proofs.Common.{◌≡◌, ℕ, ◌+◌, ◌*◌, ◌≤◌, ◌⊎◌, inl, inr, Result, Ok, Err, List, refl, sym, ap, subst, arith}
 use Rattle.tb_prim.specs.declared.event.Stop.{Stop}
-use Rattle.tb_semantics.specs.Keeps.{IsSameWindow, Keeps}
-use Rattle.tb_semantics.specs.Runs.{Ends, Machine, after}
-use Rattle.tb_core.specs.Events.{EndsLast, HasStopped, is_last}
-use Rattle.tb_core.specs.Measures.{reference_measured}
-use Rattle.tb_core.specs.OperandOrder.{order_of}
-use Rattle.tb_core.specs.Reference as ref
-use Rattle.tb_core.specs.Space.{made_of, space_of}
+use Rattle.tb_semantics.specs.Runs.{after}
+use Rattle.tb_core.specs.Space.{space_of}
 use Rattle.tb_core.specs.Tree.{ProgramTree}
-use Rattle.tb_core.specs.Width.{square_sum}
-use Rattle.tb_mac.specs.Frames.{Framed}
-use Rattle.tb_mac.specs.FramedRuns.{FramedState, Runs as FramedRuns, Stays, flat_state, framed_events, framed_full, framed_machine, measured_machine}
 use Rattle.tb_mac.specs.Layout.{start_size}
-use Rattle.tb_mac.specs.LiveWords.{IsWalkable, machine_words}
-use Rattle.tb_mac.specs.MacEvents as mac
-use Rattle.tb_mac.specs.MacEvents.{MacState, Going, Halted}
-use Rattle.tb_mac.specs.MacStep.{Mac}
-use Rattle.tb_macm.specs.RunDoes.{IsPassing}
+use Rattle.tb_mac.specs.MacEvents.{MacState}
 use Rattle.tb_macm.specs.declared.load.LoadRefusal.{LoadRefusal}
 use Rattle.tb_passes.specs.Passes.{program_code}
+use Rattle.tb_reporting.specs.Reports as reporting
+use Rattle.tb_reporting.specs.Reports.{ReportDoes}
 use Rattle.tb_running.specs.Runs as running
 use Rattle.tb_running.specs.Runs.{CodeDoes, EndsWith}
-use Rattle.tb_twobit.specs.declared.status.Status.{Status}
-use Rattle.tb_twobit.specs.Words.{Go}
-use Rattle.tb_twobit.specs.Refusals.{IsAccepted}
-use Rattle.tb_twobit.specs.Sinks.{Said, Sunk}
 use Rattle.tb_twobit.specs.GoDoes as does
-use Rattle.tb_twobit.specs.GoDoes.{GoDoes, HasFile, HasInput, NeedsNoMore, Outside, RunEnds, Runs, machine_of}
-use Rattle.tb_twobit.specs.SpaceSafe.{HasNarrowFactor, IsSmallMemory, IsSpaceSafe, IsWithinFactor, code_machine, factor_of, frames_after, reference_of}
+use Rattle.tb_twobit.specs.GoDoes.{GoDoes, RunEnds, Runs}
+use Rattle.tb_twobit.specs.Preparing.{Given, IsReady, Outside, no_memory, not_ready, not_fitting}
+use Rattle.tb_twobit.specs.Sinks.{Said, Sunk}
+use Rattle.tb_twobit.specs.SpaceDoes as space
+use Rattle.tb_twobit.specs.SpaceDoes.{ReportEnds, Reports, SpaceDoes, asked_of}
+use Rattle.tb_twobit.specs.SpaceSafe.{reference_of}
 use Rattle.tb_twobit.specs.Statuses.{full_line, number}
+use Rattle.tb_twobit.specs.Stopping as stops
+use Rattle.tb_twobit.specs.Stopping.{IsNeverStuck, IsPromised, Stops, machine_of}
+use Rattle.tb_twobit.specs.Words.{Go, Space}
 use Rattle.tb_twobit.specs.calls.Running.{Finishes}
-use Rattle.tb_twobit.proofs.ReferenceRuns.{ReferenceLaws, begins, still_stopped}
+use Rattle.tb_twobit.specs.declared.status.Status.{Status}
 
--- what is known of code: the laws of the layers below, for one program, one memory and one input
-pub record CodeLaws (p : ProgramTree) (heap : ℕ) (input : List ℕ) : Type 0 where
-  pub reference : ReferenceLaws p input
-  pub keeps : Keeps (measured_machine (program_code p) heap input) (reference_measured p (order_of p) input) 1
-  pub stands : (n : ℕ) →
-      (framed_machine (program_code p) heap input).step (after (framed_machine (program_code p) heap input) n)
-      ≡ after (framed_machine (program_code p) heap input) n →
-      framed_full (after (framed_machine (program_code p) heap input) n) ≡ false →
-      (m : ℕ) × HasStopped (after (reference_of p input) m)
-      × (framed_events (after (framed_machine (program_code p) heap input) n)
-      ≡ ref.events_of (after (reference_of p input) m))
-  pub flat : (n : ℕ) → flat_state (after (framed_machine (program_code p) heap input) n)
-      ≡ after (code_machine p heap input) n
-  pub quick : (n : ℕ) (m : Framed) (rest : List ℕ) (es : List Event) →
-      after (framed_machine (program_code p) heap input) n ≡ FramedRuns m rest es →
-      n < (8 * square_sum p + 10) * (length es + 1)
-  pub narrow : HasNarrowFactor p
-  pub walkable : (n : ℕ) → IsWalkable (program_code p) (frames_after p heap input n)
-  pub space : (n : ℕ) → (m : ℕ) × IsSameWindow (framed_machine (program_code p) heap input) (reference_of p input) n m
-      × IsWithinFactor (factor_of p) (machine_words (program_code p) (frames_after p heap input n))
-      (space_of p (after (reference_of p input) m))
-  pub small : (n : ℕ) → framed_full (after (framed_machine (program_code p) heap input) n) ≡ true →
-      (k : ℕ) × (l : ℕ) × IsSameWindow (framed_machine (program_code p) heap input) (reference_of p input) n k
-      × IsSameWindow (framed_machine (program_code p) heap input) (reference_of p input) n l
-      × (heap < factor_of p * (space_of p (after (reference_of p input) k) + made_of (after (reference_of p input) l))
-      + factor_of p)
+-- what is promised of the runs of the code of a program
+pub record RunLaws (go : Go) (p : ProgramTree) (input : List ℕ) : Type 0 where
+  pub promised : (taken status : ℕ) (diag : Sunk) → taken ≤ go.steps →
+      Stops (after (machine_of go p input) taken) taken go.steps diag status ⊎ (status ≡ 4) → IsPromised go p input taken status
+  pub never_stuck : (n : ℕ) → IsNeverStuck (after (machine_of go p input) n)
 
-flat_events : (s : FramedState) → mac.events_of (flat_state s) ≡ framed_events s
-flat_events (FramedRuns m input es) = refl
-flat_events (Stays m s input es) = refl
-
--- events that pass do not end with the last of a run
-passing_last : (front : List Event) (e : Event) → All IsPassing (front ++ e ∷ []) → IsPassing e
-passing_last front e h =
-    subst IsPassing (index_last front e e) (h (length front) e (let l = length-append front (e ∷ []) in omega arith))
-  where
-    index_last : (xs : List Event) (x d : Event) → slice_index_or (xs ++ x ∷ []) (length xs) d ≡ x
-    index_last [] x d = refl
-    index_last (y ∷ xs) x d = index_last xs x d
-
-not_last : (e : Event) → IsPassing e → is_last e ≡ true → ⊥
-not_last (Event.Enter l) h e = cc
-not_last Event.Back h e = cc
-not_last (Event.Put c) h e = cc
-not_last (Event.Took t) h e = cc
-not_last Event.End h e = h
-not_last (Event.Fail c q) h e = h
-
--- where a run has stopped its events do not all pass
-no_pass : (s : ref.State) → HasStopped s → EndsLast s → All IsPassing (ref.events_of s) → ⊥
-no_pass (ref.Running c es) h l a = h
-no_pass (ref.Stopped c es) h l a = not_last l.last (passing_last l.front l.last (subst (All IsPassing) l.whole a)) l.stops
-no_pass (ref.Lost c es) h l a = h
-
-module _ (go : Go) (p : ProgramTree) (input : List ℕ) (laws : CodeLaws p go.heap input) where
+module _ (go : Go) (p : ProgramTree) (input : List ℕ) (laws : RunLaws go p input) where
   abbrev at : ℕ → MacState
   at n = after (machine_of go p input) n
 
-  abbrev source : Machine Event ref.State
-  source = reference_of p input
-
-  like_reference : (n : ℕ) → (m : ℕ) × (mac.events_of (at n) ≡ ref.events_of (after (reference_of p input) m))
-  like_reference n =
-      let w = (laws.keeps).windows n in
-      (w.0, ap mac.events_of (sym (laws.flat n)) ∙ flat_events (after (framed_machine (program_code p) go.heap input) n) ∙ w.1)
-
-  -- a state without a next step stands still, and is not full
-  stuck_stands : (s : FramedState) (m : Mac) (pc : ℕ) (rest : List ℕ) (es : List Event) →
-      flat_state s ≡ Halted m (Stop.Stuck pc) rest es →
-      ((framed_machine (program_code p) go.heap input).step s ≡ s) × (framed_full s ≡ false) × (framed_events s ≡ es)
-  stuck_stands (FramedRuns x y z) m pc rest es e = cc
-  stuck_stands (Stays x (Stop.Stuck q) y z) m pc rest es e = (refl, refl, cc)
-  stuck_stands (Stays x (Stop.Full h s n) y z) m pc rest es e = cc
-  stuck_stands (Stays x Stop.End y z) m pc rest es e = cc
-  stuck_stands (Stays x (Stop.Fail c q) y z) m pc rest es e = cc
-  stuck_stands (Stays x Stop.Steps y z) m pc rest es e = cc
-  stuck_stands (Stays x Stop.ReadFault y z) m pc rest es e = cc
-  stuck_stands (Stays x Stop.WriteFault y z) m pc rest es e = cc
-
-  never_stuck : (n : ℕ) (m : Mac) (pc : ℕ) (rest : List ℕ) (es : List Event) → at n ≡ Halted m (Stop.Stuck pc) rest es →
-      All IsPassing es → ⊥
-  never_stuck n m pc rest es e a =
-      let s = stuck_stands (after (framed_machine (program_code p) go.heap input) n) m pc rest es (laws.flat n ∙ e) in
-      let end = laws.stands n s.0 s.1 in
-      no_pass (after source end.0) end.1 ((laws.reference).ends_last end.0)
-      (subst (All IsPassing) (sym s.2 ∙ end.2) a)
-
-  -- a machine that goes on has emitted fewer events than a reference that has stopped
-  goes_framed : (s : FramedState) (m : Mac) (rest : List ℕ) (es : List Event) → flat_state s ≡ Going m rest es →
-      (f : Framed) × (s ≡ FramedRuns f rest es)
-  goes_framed (FramedRuns f x y) m rest es e = (f, (let a : x ≡ rest = cc in let b : y ≡ es = cc in ap (λ v. FramedRuns f v y) a ∙ ap (FramedRuns f rest) b))
-  goes_framed (Stays f s x y) m rest es e = cc
-
-  fewer_events : (taken j n : ℕ) (m : Mac) (rest : List ℕ) (es fs : List Event) → at taken ≡ Going m rest es → All IsPassing es →
-      Ends source n fs → length fs ≡ suc j → length es ≤ j
-  fewer_events taken j n m rest es fs e a d l =
-      let like = like_reference taken in
-      let mine : es ≡ ref.events_of (after source like.0) = sym (ap mac.events_of e) ∙ like.1 in
-      let pre = begins p input laws.reference n fs d like.0 in
-      let len : length (ref.events_of (after source like.0) ++ pre.rest) ≡ length fs = ap length pre.whole in
-      let parts = length-append (ref.events_of (after source like.0)) pre.rest in
-      let own : length es ≡ length (ref.events_of (after source like.0)) = ap length mine in
-      no_rest pre.rest (pre.whole) (omega arith)
-    where
-      no_rest : (r : List Event) → ref.events_of (after source (like_reference taken).0) ++ r ≡ fs →
-          length es + length r ≡ suc j → length es ≤ j
-      no_rest (x ∷ r) w k = omega arith
-      no_rest [] w k =
-          let like = like_reference taken in
-          let all : es ≡ fs = sym (ap mac.events_of e) ∙ like.1 ∙ sym (append-nil (ref.events_of (after source like.0))) ∙ w in
-          absurd (no_pass (after source n) (still_stopped p input laws.reference n fs d) ((laws.reference).ends_last n) (subst (All IsPassing) (all ∙ sym d.emitted) a))
-
-  enough : (taken status : ℕ) (out diag : Sunk) → RunEnds p (at taken) taken go.steps out diag status →
-      NeedsNoMore p input go.steps status
-  enough taken _ out diag (does.ended rest front a b d) j n es e l le is = omega arith
-  enough taken _ out diag (does.not_put rest fs a b d q f h) j n es e l le is = omega arith
-  enough taken _ out diag (does.failed rest front c q a b d) j n es e l le is = omega arith
-  enough taken _ out diag (does.full rest fs x y z a b d) j n es e l le is = omega arith
-  enough taken _ out diag (does.out_of_steps {m = m} rest fs going a t d) j n es e l le is =
-      let f = goes_framed (after (framed_machine (program_code p) go.heap input) taken) m rest fs (laws.flat taken ∙ going) in
-      let q = laws.quick taken f.0 rest fs f.1 in
-      let few = fewer_events taken j n m rest fs es going a e l in
-      let most : (8 * square_sum p + 10) * (length fs + 1) ≤ (8 * square_sum p + 10) * suc j =
-      mul-le-mul_left (8 * square_sum p + 10) (omega arith) in
-      omega (arith, q, most, le, t)
-
-  -- each state of the run is safe for space
-  safe : (n : ℕ) → IsSpaceSafe p go.heap input n
-  safe n =
-      let w = laws.space n in record {
-        own_state = laws.flat n;
-        walkable = laws.walkable n;
-        moment = w.0;
-        same_window = ap mac.events_of (sym (laws.flat n)) ∙ flat_events (after (framed_machine (program_code p) go.heap input) n) ∙ w.1;
-        within = w.2;
-      }
-
-  -- a state whose request was refused is full
-  full_framed : (s : FramedState) (m : Mac) (h k need : ℕ) (rest : List ℕ) (es : List Event) →
-      flat_state s ≡ Halted m (Stop.Full h k need) rest es → framed_full s ≡ true
-  full_framed (FramedRuns x y z) m h k need rest es e = cc
-  full_framed (Stays x (Stop.Full h' k' n) y z) m h k need rest es e = refl
-  full_framed (Stays x (Stop.Stuck q) y z) m h k need rest es e = cc
-  full_framed (Stays x Stop.End y z) m h k need rest es e = cc
-  full_framed (Stays x (Stop.Fail c q) y z) m h k need rest es e = cc
-  full_framed (Stays x Stop.Steps y z) m h k need rest es e = cc
-  full_framed (Stays x Stop.ReadFault y z) m h k need rest es e = cc
-  full_framed (Stays x Stop.WriteFault y z) m h k need rest es e = cc
-
-  small_where : (taken : ℕ) → framed_full (after (framed_machine (program_code p) go.heap input) taken) ≡ true →
-      IsSmallMemory p go.heap input (mac.events_of (at taken))
-  small_where taken full =
-      let s = laws.small taken full in
-      let same = ap mac.events_of (sym (laws.flat taken)) ∙ flat_events (after (framed_machine (program_code p) go.heap input) taken) in
-      record { held = s.0; made = s.1; held_window = same ∙ s.2; made_window = same ∙ s.3; small = s.4 }
-
-  small_full : (taken status : ℕ) (out diag : Sunk) → RunEnds p (at taken) taken go.steps out diag status → status ≡ 7 →
-      IsSmallMemory p go.heap input (mac.events_of (at taken))
-  small_full taken _ out diag (does.ended rest front a b d) is = absurd (omega arith)
-  small_full taken _ out diag (does.not_put rest fs a b d q f h) is = absurd (omega arith)
-  small_full taken _ out diag (does.failed rest front c q a b d) is = absurd (omega arith)
-  small_full taken _ out diag (does.full {m = m} rest fs x y z a b d) is =
-      small_where taken (full_framed (after (framed_machine (program_code p) go.heap input) taken) m x y z rest fs (laws.flat taken ∙ a))
-  small_full taken _ out diag (does.out_of_steps rest fs a b d e) is = absurd (omega arith)
-
-  -- how the run ends, by the stop that the interpreter gave
   run_ends : (taken : ℕ) (out diag : Sunk) (stop : Stop) (status : Status) → EndsWith (program_code p) (at taken) taken go.steps out stop →
       Finishes go.heap (Ok stop) diag status → RunEnds p (at taken) taken go.steps out diag (number status)
   run_ends taken out diag _ status (running.out_of_steps rest es e a t) f =
-      subst (RunEnds p (at taken) taken go.steps out diag) (sym (ap number f.own)) (does.out_of_steps rest es e a t f.silent)
+      subst (RunEnds p (at taken) taken go.steps out diag) (sym (ap number f.own)) (does.stopped (stops.out_of_steps rest es e a t f.silent))
   run_ends taken out diag _ status (running.not_put rest es e a t b r) f =
       subst (RunEnds p (at taken) taken go.steps out diag) (sym (ap number f.own)) (does.not_put rest es e a t b r f.silent)
   run_ends taken out diag _ status (running.ended rest es e a) f =
-      subst (RunEnds p (at taken) taken go.steps out diag) (sym (ap number f.own)) (does.ended rest es e a f.silent)
+      subst (RunEnds p (at taken) taken go.steps out diag) (sym (ap number f.own)) (does.stopped (stops.ended rest es e a f.silent))
   run_ends taken out diag _ status (running.failed rest es c q e a) f =
-      subst (RunEnds p (at taken) taken go.steps out diag) (sym (ap number f.own)) (does.failed rest es c q e a f.says)
+      subst (RunEnds p (at taken) taken go.steps out diag) (sym (ap number f.own)) (does.stopped (stops.failed rest es c q e a f.says))
   run_ends taken out diag _ status (running.full rest es h s n e a) f =
-      subst (RunEnds p (at taken) taken go.steps out diag) (sym (ap number f.own)) (does.full rest es h s n e a f.says)
-  run_ends taken out diag _ status (running.stuck rest es pc e a) f = absurd (never_stuck taken _ pc rest es e a)
+      subst (RunEnds p (at taken) taken go.steps out diag) (sym (ap number f.own)) (does.stopped (stops.full rest es h s n e a f.says))
+  run_ends taken out diag _ status (running.stuck rest es pc e a) f = absurd (laws.never_stuck taken _ pc rest es e a)
+
+  run_stops : (taken : ℕ) (out diag : Sunk) (status : ℕ) → RunEnds p (at taken) taken go.steps out diag status →
+      Stops (at taken) taken go.steps diag status ⊎ (status ≡ 4)
+  run_stops taken out diag status (does.stopped s) = inl s
+  run_stops taken out diag _ (does.not_put rest es a b d q f h) = inr refl
 
   pub code_runs : (out diag : Sunk) (stop : Stop) (status : Status) →
       running.Runs (program_code p) (record { heap = go.heap; steps = go.steps; input = input }) out stop →
       Finishes go.heap (Ok stop) diag status → Runs go p input out diag (number status)
   code_runs out diag stop status r f =
-      let like = like_reference r.taken in record {
+      let ends = run_ends r.taken out diag stop status r.ends f in record {
         taken = r.taken;
-        within = r.within;
-        moment = like.0;
-        like_reference = like.1;
+        promised = laws.promised r.taken (number status) diag r.within (run_stops r.taken out diag (number status) ends);
         put = r.put;
-        ends = run_ends r.taken out diag stop status r.ends f;
-        needs_no_more = enough r.taken (number status) out diag (run_ends r.taken out diag stop status r.ends f);
-        narrow = laws.narrow;
-        space_safe = λ n le. safe n;
-        small_where_full = small_full r.taken (number status) out diag (run_ends r.taken out diag stop status r.ends f);
+        ends = ends;
       }
 
+module _ (s : Space) (p : ProgramTree) (input : List ℕ) (laws : RunLaws s.go p input) where
+  abbrev came : ℕ → MacState
+  came n = after (machine_of s.go p input) n
+
+  report_ends : (taken : ℕ) (out diag : Sunk) (stop : Stop) (status : Status) →
+      reporting.ReportEnds (program_code p) (asked_of s input) (came taken) taken out stop →
+      Finishes s.go.heap (Ok stop) diag status → ReportEnds s p input taken out diag (number status)
+  report_ends taken out diag _ status (reporting.out_of_steps rest es e a t g) f =
+      subst (ReportEnds s p input taken out diag) (sym (ap number f.own)) (space.stopped (stops.out_of_steps rest es e a t f.silent) g)
+  report_ends taken out diag _ status (reporting.not_put n g r) f =
+      subst (ReportEnds s p input taken out diag) (sym (ap number f.own)) (space.not_put n g r f.silent)
+  report_ends taken out diag _ status (reporting.ended rest es e a g) f =
+      subst (ReportEnds s p input taken out diag) (sym (ap number f.own)) (space.stopped (stops.ended rest es e a f.silent) g)
+  report_ends taken out diag _ status (reporting.failed rest es c q e a g) f =
+      subst (ReportEnds s p input taken out diag) (sym (ap number f.own)) (space.stopped (stops.failed rest es c q e a f.says) g)
+  report_ends taken out diag _ status (reporting.full rest es h k n e a g) f =
+      subst (ReportEnds s p input taken out diag) (sym (ap number f.own)) (space.stopped (stops.full rest es h k n e a f.says) g)
+  report_ends taken out diag _ status (reporting.stuck rest es pc e a g) f = absurd (laws.never_stuck taken _ pc rest es e a)
+
+  report_stops : (taken : ℕ) (out diag : Sunk) (status : ℕ) → ReportEnds s p input taken out diag status →
+      Stops (came taken) taken s.go.steps diag status ⊎ (status ≡ 4)
+  report_stops taken out diag status (space.stopped k g) = inl k
+  report_stops taken out diag _ (space.not_put n g r d) = inr refl
+
+  pub code_reports : (out diag : Sunk) (stop : Stop) (status : Status) →
+      reporting.Reports (program_code p) (asked_of s input) out stop →
+      Finishes s.go.heap (Ok stop) diag status → Reports s p input out diag (number status)
+  code_reports out diag stop status r f =
+      let ends = report_ends r.taken out diag stop status r.ends f in record {
+        taken = r.taken;
+        promised = laws.promised r.taken (number status) diag r.within (report_stops r.taken out diag (number status) ends);
+        ends = ends;
+      }
+
+-- the input under another name
+pub same_input : (source : List ℕ) (g : Given) (p : ProgramTree) (input other : List ℕ) → input ≡ other →
+    IsReady source g other p → IsReady source g input p
+same_input source g p input other e ready = subst (λ i. IsReady source g i p) (sym e) ready
+
 -- the command on a text that was compiled, when it has run the code
-pub go_runs : (go : Go) (o : Outside) (bytes input : List ℕ) (p : ProgramTree) → HasFile o.files go.source bytes →
-    IsAccepted bytes p → HasInput o.input input → (start_size (program_code p).parts + 64 ≤ go.heap → CodeLaws p go.heap input) →
+pub go_runs : (go : Go) (o : Outside) (input : List ℕ) (p : ProgramTree) → IsReady go.source o.given input p →
+    (start_size (program_code p).parts + 64 ≤ go.heap → RunLaws go p input) →
     start_size (program_code p).parts ≤ 2 * space_of p (reference_of p input).start + 1 →
     (ended : Result Stop LoadRefusal) (status : Status) →
     CodeDoes (program_code p) (record { heap = go.heap; steps = go.steps; input = input }) o.out ended →
     Finishes go.heap ended o.diag status → GoDoes go o (number status)
-go_runs go o bytes input p file a has laws little (Ok stop) status d f =
-    does.ran bytes input p file a has (code_runs go p input (laws d.0) o.out o.diag stop status d.1 f)
-go_runs go o bytes input p file a has laws little (Err (LoadRefusal.HeapSmall pointer)) status d f =
+go_runs go o input p ready laws little (Ok stop) status d f =
+    does.ran input p ready (code_runs go p input (laws d.0) o.out o.diag stop status d.1 f)
+go_runs go o input p ready laws little (Err (LoadRefusal.HeapSmall pointer)) status d f =
     subst (GoDoes go o) (sym (ap number f.own))
-    (does.not_fitting bytes input p file a has d.0 (let less = d.0 in omega (arith, less, little)) d.2 (subst (λ n. Said o.diag (full_line n go.heap 64)) d.1 f.says))
-go_runs go o bytes input p file a has laws little (Err LoadRefusal.NoMemory) status d f =
-    subst (GoDoes go o) (sym (ap number f.own)) (does.no_memory d.1 f.silent)
+    (does.not_run (not_fitting input p ready d.0 (let less = d.0 in omega (arith, less, little)) d.2 (subst (λ n. Said o.diag (full_line n go.heap 64)) d.1 f.says)))
+go_runs go o input p ready laws little (Err LoadRefusal.NoMemory) status d f =
+    subst (GoDoes go o) (sym (ap number f.own)) (does.not_run (not_ready (no_memory f.silent) d.1))
+
+-- and when it has put a report of the run
+pub space_runs : (s : Space) (o : Outside) (input : List ℕ) (p : ProgramTree) → IsReady s.go.source o.given input p →
+    (start_size (program_code p).parts + 64 ≤ s.go.heap → RunLaws s.go p input) →
+    start_size (program_code p).parts ≤ 2 * space_of p (reference_of p input).start + 1 →
+    (ended : Result Stop LoadRefusal) (status : Status) → ReportDoes (program_code p) (asked_of s input) o.out ended →
+    Finishes s.go.heap ended o.diag status → SpaceDoes s o (number status)
+space_runs s o input p ready laws little (Ok stop) status d f =
+    space.reported input p ready (code_reports s p input (laws d.0) o.out o.diag stop status d.1 f)
+space_runs s o input p ready laws little (Err (LoadRefusal.HeapSmall pointer)) status d f =
+    subst (SpaceDoes s o) (sym (ap number f.own))
+    (space.not_run (not_fitting input p ready d.0 (let less = d.0 in omega (arith, less, little)) d.2 (subst (λ n. Said o.diag (full_line n s.go.heap 64)) d.1 f.says)))
+space_runs s o input p ready laws little (Err LoadRefusal.NoMemory) status d f =
+    subst (SpaceDoes s o) (sym (ap number f.own)) (space.not_run (not_ready (no_memory f.silent) d.1))

@@ -1,6 +1,6 @@
 -- Runs of the reference machine: where one stands still it has stopped, and a moment whose events end with End or Fail has
 -- all the events.
-use Rattle.std.proofs.Common.{◌≡◌, ℕ, suc, ◌+◌, ◌-◌, ◌≤◌, ◌++◌, length, length-append, List, [], ◌∷◌, refl, sym, ap, ◌∙◌, subst, true, ⊎_elim, arith}
+use Rattle.std.proofs.Common.{◌≡◌, ℕ, suc, ◌+◌, ◌-◌, ◌++◌, length, length-append, List, [], ◌∷◌, refl, sym, ap, ◌∙◌, subst, true, ⊎_elim, arith}
 use Rattle.tb_prim.specs.declared.event.Event.{Event}
 use Rattle.tb_semantics.specs.Runs.{EmitsInOrder, Ends, IsPrefix, Machine, after}
 use Rattle.tb_semantics.proofs.RunLaws.{after-stays, prefix-after, prefix_refl}

@@ -8,7 +8,7 @@ use Rattle.tb_core.specs.Space.{made_of, space_of}
 use Rattle.tb_core.specs.Tree.{ProgramTree}
 use Rattle.tb_core.specs.Width.{factor_bound, square_sum}
 use Rattle.tb_macm.specs.RunDoes.{puts}
-use Rattle.tb_twobit.specs.GoDoes.{Outside, input_limit, source_limit}
+use Rattle.tb_twobit.specs.Preparing.{Outside, input_limit, source_limit}
 use Rattle.tb_twobit.specs.Refusals.{IsAccepted}
 use Rattle.tb_twobit.specs.Sinks.{Gained}
 use Rattle.tb_twobit.specs.SpaceSafe.{reference_of}
@@ -26,14 +26,14 @@ pub record HasEnough (go : Go) (p : ProgramTree) (input : List ℕ) (es : List E
 -- faults rises
 pub record IsServed (go : Go) (o : Outside) (bytes input : List ℕ) (p : ProgramTree) : Type 0 where
   pub files : Files
-  pub told : o.files ≡ Some files
+  pub told : o.given.files ≡ Some files
   pub there : files go.source ≡ Some bytes
   pub short : length bytes ≤ source_limit
   pub accepted : IsAccepted bytes p
-  pub input_told : o.input ≡ Some input
+  pub input_told : o.given.input ≡ Some input
   pub input_short : length input ≤ input_limit
-  pub loaded : Rose o.loads o.loads_now → ⊥
-  pub read : Rose o.reads o.reads_now → ⊥
+  pub loaded : Rose o.given.loads o.given.loads_now → ⊥
+  pub read : Rose o.given.reads o.given.reads_now → ⊥
   pub put : Rose o.out.faults o.out.faults_now → ⊥
 
 -- the whole output of the program is put, and the status is that of its end, 0 or 6; but for want of memory of the

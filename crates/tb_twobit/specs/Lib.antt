@@ -3,6 +3,10 @@ pub mod Statuses
 pub mod Refusals
 pub mod Sinks
 pub mod SpaceSafe
+pub mod Preparing
+pub mod Stopping
 pub mod GoDoes
+pub mod SpaceDoes
 pub mod Complete
+pub mod CommandDoes
 pub mod calls

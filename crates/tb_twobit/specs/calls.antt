@@ -1,3 +1,4 @@
 pub mod Asked
 pub mod Compiling
+pub mod Preparing
 pub mod Running

@@ -1,14 +1,29 @@
 //! What holds of all source texts.
 
-ghost use Rattle.std.specs.Prelude.{◌≡◌, ◌⊎◌, ℕ, List};
+ghost use Rattle.std.specs.Prelude.{◌≡◌, ◌⊎◌, ◌+◌, ◌≤◌, ℕ, List, All};
 ghost use Rattle.tb_core.specs.Tree.{ProgramTree};
+ghost use Rattle.tb_mac.specs.Layout.{start_size};
+ghost use Rattle.tb_passes.specs.Compilable.{IsCompilable};
+ghost use Rattle.tb_passes.specs.Passes.{program_code};
+ghost use Rattle.tb_semantics.specs.Runs.{after};
 ghost use Rattle.tb_twobit.specs.Complete.{ComesToEnd};
-ghost use Rattle.tb_twobit.specs.GoDoes.{GoDoes, Outside};
+ghost use Rattle.tb_twobit.specs.GoDoes.{GoDoes};
+ghost use Rattle.tb_twobit.specs.Preparing.{Outside};
 ghost use Rattle.tb_twobit.specs.Refusals.{IsAccepted, IsRefusedWith};
+ghost use Rattle.tb_twobit.specs.Sinks.{Sunk};
+ghost use Rattle.tb_twobit.specs.Stopping.{IsNeverStuck, IsPromised, Stops, machine_of};
 ghost use Rattle.tb_twobit.specs.Words.{Go};
 ghost use Rattle.tb_twobit.specs.declared.refusal.Refusal.{Refusal};
 
+use tb_bounds::laws::{
+    bounds_are_narrow, code_is_space_safe, full_only_when_small, states_are_walkable,
+};
+use tb_core::laws::{all_events_end, emits_in_order, ends_last};
 use tb_expand::one_answer_a_text as one_meaning_a_text;
+use tb_mac::laws::framed_runs_are_flat;
+use tb_passes::laws::{
+    code_is_quick, code_keeps_the_reference_machine, code_stands_still_at_the_end,
+};
 use tb_sexp::laws::texts_read_one_way;
 
 /// A source text is accepted with one program, or refused with one number at one place, and not both.
@@ -28,8 +43,30 @@ pub fn enough_comes_to_the_end()
     ensures law { (go : Go) (o : Outside) (status : ℕ) → GoDoes go o status → ComesToEnd go o status }
 {
     one_answer_a_text();
-    tb_core::laws::all_events_end();
-    tb_core::laws::emits_in_order();
-    tb_core::laws::ends_last();
+    all_events_end();
+    emits_in_order();
+    ends_last();
     tb_expand::numbered_programs_keep_rules();
+}
+
+/// A run of the code of a program in a memory that its globals and static objects fit into, with 64 further words, keeps
+/// what is promised of it, by whichever of its steps it stops, and is never without a next step.
+pub fn runs_are_promised()
+    ensures law { (go : Go) (p : ProgramTree) (input : List ℕ) → IsCompilable p → start_size (program_code p).parts + 64 ≤ go.heap →
+        (taken status : ℕ) (diag : Sunk) → taken ≤ go.steps →
+        Stops (after (machine_of go p input) taken) taken go.steps diag status ⊎ (status ≡ 4) → IsPromised go p input taken status }
+    ensures never_stuck { (go : Go) (p : ProgramTree) (input : List ℕ) → IsCompilable p →
+        start_size (program_code p).parts + 64 ≤ go.heap → (n : ℕ) → IsNeverStuck (after (machine_of go p input) n) }
+{
+    code_keeps_the_reference_machine();
+    code_stands_still_at_the_end();
+    code_is_quick();
+    framed_runs_are_flat();
+    all_events_end();
+    emits_in_order();
+    ends_last();
+    code_is_space_safe();
+    states_are_walkable();
+    bounds_are_narrow();
+    full_only_when_small();
 }

@@ -1,5 +1,6 @@
 //! The top call, `twobit`, which does all that the program does, and `compile`, from a text to code. What they promise
-//! stands in specs/GoDoes and specs/Refusals; a law says that each text has one answer.
+//! stands in specs/CommandDoes and specs/Refusals; laws say that each text has one answer,
+//! and what each run of its code keeps.
 #![tactic(auto)]
 
 mod compiling;
@@ -7,8 +8,10 @@ mod go;
 pub mod laws;
 mod limits;
 mod lines;
+mod prepare;
 mod refusal;
 mod run;
+mod space;
 mod status;
 mod top;
 mod words;

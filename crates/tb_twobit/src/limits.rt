@@ -1,4 +1,4 @@
-//! How far a run may go.
+//! How far a run may go, and how often it is reported.
 
 ghost use Rattle.std.specs.Prelude.{◌≤◌};
 
@@ -9,4 +9,11 @@ pub struct Limits {
     pub steps: u64,
     ghost least: { 1024 ≤ heap },
     ghost most: { heap ≤ 33554432 },
+}
+
+/// How often a report of a run has a line: behind each event whose number is a multiple of this.
+#[derive(Clone, Copy, Debug)]
+pub struct Interval {
+    pub events: u64,
+    ghost least: { 1 ≤ events },
 }

@@ -1,9 +1,7 @@
-use Rattle.std.proofs.Common.{◌≡◌, ℕ, sym, subst, false, List}
+use Rattle.std.proofs.Common.{sym, subst, false}
 use Rattle.tb_core.specs.OperandOrder.{order_of}
 use Rattle.tb_core.specs.Rules.{KeepsRules}
-use Rattle.tb_core.specs.Tree.{ProgramTree}
 use Rattle.tb_sexp.specs.View as sexp
-use Rattle.tb_twobit.specs.Refusals.{IsAccepted}
 use Rattle.tb_twobit.proofs.Completeness.{comes-to-end}
 use Rattle.tb_twobit.proofs.laws.enough_comes_to_the_end.Goals as goal
 
